@@ -14,3 +14,18 @@ pub struct Message {
     pub marks: u8,
     pub note: u32,
 }
+
+impl Message {
+    // What stands in memory before any message does.
+    pub const BLANK: Message = Message {
+        kind: 0,
+        replica: 0,
+        client: 0,
+        round: 0,
+        version: 0,
+        value: 0,
+        previous: 0,
+        marks: 0,
+        note: 0,
+    };
+}
