@@ -1,0 +1,4 @@
+pub mod Operations
+pub mod Laws
+pub mod Performing
+pub mod Examples

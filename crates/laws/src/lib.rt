@@ -1,0 +1,4 @@
+// The laws of every past, and the call on which they stand.
+pub mod examples;
+pub mod perform;
+pub mod stand;
