@@ -1,0 +1,17 @@
+pub mod Numbers
+pub mod Parting
+pub mod Walks
+pub mod Counting
+pub mod Names
+pub mod Filling
+pub mod Heads
+pub mod Outcomes
+pub mod Unique
+pub mod Admitted
+pub mod Refuted
+pub mod Apart
+pub mod Excluded
+pub mod Exact
+pub mod Verdict
+pub mod Single
+pub mod Lines
