@@ -53,3 +53,4 @@ pub mod FromModel
 pub mod Stands
 pub mod Session
 pub mod Played
+pub mod MarkedRight

@@ -1,13 +1,4 @@
-// The limits of the product, each once; docs/RULES.md has the same table.
-
-// Replicas are numbered below this.
-pub const REPLICAS: usize = 32;
-
-// The writer, client 0, and up to 64 readers.
-pub const CLIENTS: usize = 65;
-
-// The largest value; the smallest is its negative.
-pub const VALUE_MAX: i32 = 9_999_999;
+// Limits that several places name; docs/RULES.md and docs/FORMATS.md have them all.
 
 // A client whose round number has come so far starts nothing more.
 pub const ROUNDS_MAX: u32 = 2_000_000;
