@@ -29,7 +29,8 @@ fn is_later(m: &Message, replica: u8, len: usize) -> bool
 
 // The cell after the pocket's newest.
 fn end_of(start: usize, len: usize) -> usize
-    requires { (start ≤ 64) × (len < 64) }
+    requires start { start ≤ 64 }
+    requires len { len < 64 }
     ensures at { result ≡ end_of start len 64 }
     ensures within { result < 64 }
 {

@@ -1,3 +1,5 @@
 // Two more channels: a table of slots, and a layer that delays what goes to one replica.
+#![tactic(auto)]
+
 pub mod delay;
 pub mod slots;

@@ -1,4 +1,6 @@
 // The program drill: a sheet on standard input, run over a queue of 1,024 messages, and its listing printed.
+#![tactic(auto)]
+
 use orders::answer::Answer;
 use orders::order::Order;
 use runner::drill::drill;

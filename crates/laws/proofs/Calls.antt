@@ -1,6 +1,6 @@
 -- Calls as the log itself tells them.
 use Rattle.std.proofs.Common.{◌≡◌, ℕ, zero, suc, ◌+◌, ◌<◌, ◌≤◌, Bool, true, false, ◌⊎◌, List, [], ◌∷◌, length, ℤ}
-use Rattle.std.specs.List.{ContainsAt as Has, AllByRecursion as All}
+use Rattle.std.specs.List.{ContainsAt as Has, AllByRecursion}
 use Rattle.laws.proofs.Cards.{Params, Fit}
 use Rattle.orders.specs.declared.order.Order.{Order}
 use Rattle.orders.specs.declared.order.Order.TheVariants.{Write, Read, Tell, Carry, ReplicaOut, ClientOut}
@@ -65,7 +65,7 @@ WriteNo [] i n = ⊥
 WriteNo (x ∷ log) i n = ((i ≡ length log) × Starts 0 x × (n ≡ suc (length (values log)))) ⊎ WriteNo log i n
 
 abbrev pub Numbered : Type 0
-Numbered = (g : Params) → Fit g → (f : ℤ) (log : List Entry) (b : State) → Trace g f log b → All (λ d. d.client ≡ 0 → WriteNo log d.begin d.version) (done log)
+Numbered = (g : Params) → Fit g → (f : ℤ) (log : List Entry) (b : State) → Trace g f log b → AllByRecursion (λ d. d.client ≡ 0 → WriteNo log d.begin d.version) (done log)
 
 abbrev pub AllEnd : Type 0
 AllEnd = (g : Params) → Fit g → (f : ℤ) (log : List Entry) (b : State) → Trace g f log b → b.waiting ≡ []
@@ -73,7 +73,7 @@ AllEnd = (g : Params) → Fit g → (f : ℤ) (log : List Entry) (b : State) →
 
 -- the list of the ended calls is that of the calls that began and ended
 pub record Faithful (log : List Entry) : Type 0 where
-  pub sound : All (λ d. BeginsAt log d.client d.begin × NextEnd log d.client d.begin d.end) (done log)
+  pub sound : AllByRecursion (λ d. BeginsAt log d.client d.begin × NextEnd log d.client d.begin d.end) (done log)
   pub complete : (c i j : ℕ) → BeginsAt log c i → NextEnd log c i j → (d : Done) × Has (done log) d × (d.client ≡ c) × (d.begin ≡ i) × (d.end ≡ j)
 
 abbrev pub Tells : Type 0

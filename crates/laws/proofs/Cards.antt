@@ -2,7 +2,7 @@
 use Rattle.std.proofs.Common.{◌≡◌, ℕ, suc, ◌+◌, ◌-◌, ◌*◌, ◌^◌, ◌<◌, ◌≤◌, max, Bool, true, false, ◌⊎◌, List, [], ◌∷◌, length, ℤ}
 use lib.Bits.{bit_or}
 use lib.Count.{ones}
-use Rattle.std.specs.List.{ContainsAt as Has, AllByRecursion as All}
+use Rattle.std.specs.List.{ContainsAt as Has, AllByRecursion}
 use Rattle.laws.proofs.Sets.{Distinct, Within}
 
 -- the settings, with the mark of each client
@@ -47,9 +47,9 @@ highest (s ∷ ss) = max s.card.version (highest ss)
 pub record Several (ss : List Slip) (m : ℕ) (P : Card → Type 0) : Type 0 where
   pub chosen : List Slip
   pub distinct : Distinct (replicas_of chosen)
-  pub from : All (Has ss) chosen
+  pub from : AllByRecursion (Has ss) chosen
   pub enough : m ≤ length chosen
-  pub each : All (λ s. P s.card) chosen
+  pub each : AllByRecursion (λ s. P s.card) chosen
 
 abbrev pub Noted : List Slip → ℕ → Type 0
 Noted ss m = Several ss m (λ c. c.note ≡ highest ss)

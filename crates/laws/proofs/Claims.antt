@@ -1,6 +1,6 @@
 -- The other two claims.
 use Rattle.std.proofs.Common.{◌≡◌, ℕ, ◌+◌, ◌<◌, ◌≤◌, false, ◌⊎◌, List, [], ◌∷◌, ℤ}
-use Rattle.std.specs.List.{AllByRecursion as All}
+use Rattle.std.specs.List.{AllByRecursion}
 use Rattle.laws.proofs.Cards.{Params, Fit}
 use Rattle.register.specs.Past.{Entry}
 use Rattle.laws.proofs.Model.{State, Trace, idle, due}
@@ -8,9 +8,9 @@ use Rattle.laws.proofs.History.{Done, done}
 
 -- a write takes one round, a read one or two; of two reads of two rounds that show one write neither ended before the other began
 pub record FewRounds (ds : List Done) : Type 0 where
-  pub told : All (λ d. d.rounds ≡ d.sets) ds
-  pub few : All (λ d. (d.rounds ≡ 1) ⊎ ((d.rounds ≡ 2) × (d.client ≡ 0 → ⊥))) ds
-  pub apart : All (λ y. All (λ x. x.rounds ≡ 2 → y.rounds ≡ 2 → x.version ≡ y.version → x.end < y.begin → ⊥) ds) ds
+  pub told : AllByRecursion (λ d. d.rounds ≡ d.sets) ds
+  pub few : AllByRecursion (λ d. (d.rounds ≡ 1) ⊎ ((d.rounds ≡ 2) × (d.client ≡ 0 → ⊥))) ds
+  pub apart : AllByRecursion (λ y. AllByRecursion (λ x. x.rounds ≡ 2 → y.rounds ≡ 2 → x.version ≡ y.version → x.end < y.begin → ⊥) ds) ds
 
 -- with no message waiting, a client still present awaits no reply
 abbrev pub Settled : State → Type 0

@@ -4,7 +4,7 @@ use lib.Bits.{and_le_r, bit_or}
 use lib.Count.{ones, ones-le}
 use Rattle.std.proofs.ByRecursion.{all-has, all_has_itself, All-weaker}
 use Rattle.std.proofs.lemmas.Bool.{cases_lt}
-use Rattle.std.specs.List.{ContainsAt as Has, AllByRecursion as All}
+use Rattle.std.specs.List.{ContainsAt as Has, AllByRecursion}
 use Rattle.laws.proofs.Sets.{Distinct, Within, Many}
 use Rattle.laws.proofs.Cards.{Params, Fit, Card, Slip, replicas_of, highest, Several, Noted, Seen, Decision, nothing, noted, seen, due, older, Ahead, Later}
 use Rattle.laws.proofs.Overlap.{many_both, many_weaker}
@@ -22,12 +22,12 @@ pub record Round (g : Params) (old : ℕ → Card) (own : ℕ) (ss : List Slip) 
   -- they come from distinct replicas, all but t of them
   pub distinct : Distinct (replicas_of ss)
   pub enough : g.replicas ≤ length ss + g.tolerated
-  pub below : All (λ s. s.replica < g.replicas) ss
+  pub below : AllByRecursion (λ s. s.replica < g.replicas) ss
   -- each replica has grown since, and has the reader's own mark
-  pub after : All (λ s. Later (old s.replica) s.card) ss
-  pub marked : All (λ s. Within own s.card.marks) ss
+  pub after : AllByRecursion (λ s. Later (old s.replica) s.card) ss
+  pub marked : AllByRecursion (λ s. Within own s.card.marks) ss
   -- a note is of a known version
-  pub known_note : All (λ s. s.card.note ≤ s.card.version) ss
+  pub known_note : AllByRecursion (λ s. s.card.note ≤ s.card.version) ss
 
 -- ---- from below: what was established as the round began
 
@@ -180,8 +180,8 @@ module _ (g : Params) (fit : Fit g) (old : ℕ → Card) (own : ℕ) (ss : List 
 -- ---- from above: what is established as the round is decided
 
 module _ (g : Params) (fit : Fit g) (now : ℕ → Card) (ss : List Slip)
-    (below : All (λ s. s.replica < g.replicas) ss) (before : All (λ s. Later s.card (now s.replica)) ss)
-    (few : All (λ s. s.card.marks < 2 ^ (g.groups + 1)) ss) where
+    (below : AllByRecursion (λ s. s.replica < g.replicas) ss) (before : AllByRecursion (λ s. Later s.card (now s.replica)) ss)
+    (few : AllByRecursion (λ s. s.card.marks < 2 ^ (g.groups + 1)) ss) where
   -- What holds of several slips, and lasts, holds of the cards of as many replicas now.
   many_from_several : (m : ℕ) (P Q : Card → Type 0) → ((c d : Card) → P c → Later c d → Q d) → Several ss m P → Many g.replicas m (λ i. Q (now i))
   many_from_several m P Q lasts x =
@@ -193,7 +193,7 @@ module _ (g : Params) (fit : Fit g) (now : ℕ → Card) (ss : List Slip)
         each = all_replicas (λ i. Q (now i)) x.chosen (go x.chosen x.from x.each);
       }
     where
-      go : (xs : List Slip) → All (Has ss) xs → All (λ s. P s.card) xs → All (λ s. Q (now s.replica)) xs
+      go : (xs : List Slip) → AllByRecursion (Has ss) xs → AllByRecursion (λ s. P s.card) xs → AllByRecursion (λ s. Q (now s.replica)) xs
       go [] f p = tt
       go (y ∷ ys) f p = (lasts y.card (now y.replica) p.0 (all-has (λ s. Later s.card (now s.replica)) ss y before f.0), go ys f.1 p.1)
 
@@ -201,7 +201,7 @@ module _ (g : Params) (fit : Fit g) (now : ℕ → Card) (ss : List Slip)
   seen_factor : (x : Seen g ss 1) → x.factor ≤ g.groups
   seen_factor x = go x.replies.chosen x.replies.from x.replies.each (omega (arith, x.replies.enough, fit.room, mul-le-mul_right g.tolerated x.high))
     where
-      go : (xs : List Slip) → All (Has ss) xs → All (λ s. (s.card.version ≡ highest ss) × Within x.common s.card.marks) xs → 1 ≤ length xs → x.factor ≤ g.groups
+      go : (xs : List Slip) → AllByRecursion (Has ss) xs → AllByRecursion (λ s. (s.card.version ≡ highest ss) × Within x.common s.card.marks) xs → 1 ≤ length xs → x.factor ≤ g.groups
       go [] f p some = absurd (omega arith)
       go (y ∷ ys) f p some =
           let lt : y.card.marks < 2 ^ (g.groups + 1) = all-has (λ s. s.card.marks < 2 ^ (g.groups + 1)) ss y few f.0 in

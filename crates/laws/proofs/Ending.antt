@@ -1,7 +1,7 @@
 -- Calls come to an end: ends in `tells_calls`, the list of the ended calls is what the log says, and `all_end`, with no message waiting every call has ended or awaits its tell.
 use Rattle.std.proofs.Common.{◌≡◌, ℕ, suc, true, false, eqb, ◌⊎◌, List, [], ◌∷◌, length, ℤ, sym, refl, ap, ◌∙◌, subst, inl, inr, arith}
 use Rattle.std.proofs.lemmas.Bool.{cases_Bool, cases_eq, eqb-false}
-use Rattle.std.specs.List.{AllByRecursion as All}
+use Rattle.std.specs.List.{AllByRecursion}
 use Rattle.wire.specs.declared.message.Message.{Message}
 use Rattle.orders.specs.Answers.{listed_as}
 use Rattle.orders.specs.declared.answer.Answer.TheVariants.{Accepted, Counted, BecameDue}
@@ -74,7 +74,7 @@ module _ (g : Params) (f : ℤ) where
           | inl e ↦ subst (Apart (x ∷ log)) (sym e) (apart_start x log c st free (t.apart c))
           | inr e ↦ apart_quiet x log j (only j e) (λ p. no_end p.0) (t.apart j)
         ];
-        sound = subst (All (λ d. BeginsAt (x ∷ log) d.client d.begin × NextEnd (x ∷ log) d.client d.begin d.end)) (sym ed) (sound_more x log (done log) t.sound);
+        sound = subst (AllByRecursion (λ d. BeginsAt (x ∷ log) d.client d.begin × NextEnd (x ∷ log) d.client d.begin d.end)) (sym ed) (sound_more x log (done log) t.sound);
       }
     where
       no_end : (listed_as x.answer).code ≡ 105 → ⊥

@@ -1,6 +1,6 @@
 -- One line of the operations of a past, from the line of the model's calls. It ends in from-line.
 use Rattle.std.proofs.Common.{◌≡◌, ℕ, zero, suc, ◌≤◌, Bool, true, false, ◌⊎◌, List, [], ◌∷◌, map, ℤ, Some, None, Option, sym, refl, ap, ◌∙◌, subst, inl, inr, arith}
-use Rattle.std.specs.List.{ContainsAt as Has, AllByRecursion as All}
+use Rattle.std.specs.List.{ContainsAt as Has, AllByRecursion}
 use Rattle.std.proofs.ByRecursion.{All-weaker, all-has, All-map, all_has_itself}
 use Rattle.std.proofs.lemmas.Bool.{cases_Bool, cases_eq}
 use Rattle.orders.specs.declared.order.Order.{Order}
@@ -74,7 +74,7 @@ shows_nearest v z (x ∷ xs) (inl h) = inl (h.0, shows_nearest x.version x.value
 shows_nearest v z (x ∷ xs) (inr h) = inr (h.0, h.1, h.2, shows_nearest v z xs h.3)
 
 -- what a read shows stands in the line
-shown_stands : (v : ℕ) (z : ℤ) (xs : List Op) → Shows v z xs → All (λ x. (x.client ≡ 0 → ⊥) → (x.version ≡ v) ⊎ ((y : Op) × Has xs y × (y.client ≡ 0) × (y.version ≡ x.version))) xs
+shown_stands : (v : ℕ) (z : ℤ) (xs : List Op) → Shows v z xs → AllByRecursion (λ x. (x.client ≡ 0 → ⊥) → (x.version ≡ v) ⊎ ((y : Op) × Has xs y × (y.client ≡ 0) × (y.version ≡ x.version))) xs
 shown_stands v z [] h = tt
 shown_stands v z (x ∷ xs) (inl h) =
     ((λ r. absurd (r h.0)), All-weaker _ _ (λ y p r. elim (p r) [ inl e ↦ inr (x, has_first x xs, h.0, sym e) | inr q ↦ inr (q.0, has_later x q.0 xs q.1, q.2, q.3) ]) xs (shown_stands x.version x.value xs h.1))
@@ -83,7 +83,7 @@ shown_stands v z (x ∷ xs) (inr h) =
 
 -- ---- a log with its line
 
-module _ (f : ℤ) (log : List Entry) (none : All NoReadOfWriter log) (on : Line f log) (faith : Faithful log) (nums : All (λ d. d.client ≡ 0 → WriteNo log d.begin d.version) (done log)) where
+module _ (f : ℤ) (log : List Entry) (none : AllByRecursion NoReadOfWriter log) (on : Line f log) (faith : Faithful log) (nums : AllByRecursion (λ d. d.client ≡ 0 → WriteNo log d.begin d.version) (done log)) where
   begins_of : (d : Done) → Has (done log) d → BeginsAt log d.client d.begin
   begins_of d h = (all-has (λ d. BeginsAt log d.client d.begin × NextEnd log d.client d.begin d.end) (done log) d faith.sound h).0
 
@@ -243,11 +243,11 @@ module _ (f : ℤ) (log : List Entry) (none : All NoReadOfWriter log) (on : Line
           let n : NextEnd log r.0.client r.0.begin q.0.end = subst (λ c. NextEnd log c r.0.begin q.0.end) c (subst (λ i. NextEnd log q.0.client i q.0.end) b (next_of q.0 q.1)) in
           ends (ap (λ (o : Op). o.end) q.2 ∙ next_same log r.0.client r.0.begin q.0.end r.0.end n (next_of r.0 r.1) ∙ ap (λ (o : Op). o.end) (sym r.2))
 
-  once_of : (xs : List Op) → Distinct (ends_of xs) → All (Has on.line) xs → NoTwice (map (λ o. o.begin) (map operation xs))
+  once_of : (xs : List Op) → Distinct (ends_of xs) → AllByRecursion (Has on.line) xs → NoTwice (map (λ o. o.begin) (map operation xs))
   once_of [] d h = tt
   once_of (x ∷ xs) d h = (others xs d.0 h.1, once_of xs d.1 h.1)
     where
-      others : (ys : List Op) → Lacks x.end (ends_of ys) → All (Has on.line) ys → All (λ j. x.begin ≡ j → ⊥) (map (λ o. o.begin) (map operation ys))
+      others : (ys : List Op) → Lacks x.end (ends_of ys) → AllByRecursion (Has on.line) ys → AllByRecursion (λ j. x.begin ≡ j → ⊥) (map (λ o. o.begin) (map operation ys))
       others [] l k = tt
       others (y ∷ ys) l k = (apart x y h.0 k.0 l.0, others ys l.1 k.1)
 

@@ -1,6 +1,6 @@
 -- Every past keeps the laws, since it is a trace of the model and the model keeps its laws. It ends in lawful.
 use Rattle.std.proofs.Common.{◌≡◌, ◌+◌, ◌*◌, ◌≤◌, List, [], map, reverse, sym, ap, ◌∙◌, subst, inl, inr, mul-le-mul_right, arith}
-use Rattle.std.specs.List.{AllByRecursion as All}
+use Rattle.std.specs.List.{AllByRecursion}
 use Rattle.std.proofs.ByRecursion.{All-weaker}
 use Rattle.register.specs.declared.settings.Checked.{Checked}
 use Rattle.register.specs.Past.{World, Entry}
@@ -30,9 +30,9 @@ module _ (k : Checked) (fit : Fit (params_of k)) (log : List Entry) (b : State) 
         | inr a ↦ inr (awaits_told log c i a)
       ]
 
-  from_trace : (w : World) → map msg_of w.waiting ≡ b.waiting → All (Regular k) log → Lawful k w (oldest log)
+  from_trace : (w : World) → map msg_of w.waiting ≡ b.waiting → AllByRecursion (Regular k) log → Lawful k w (oldest log)
   from_trace w waits regular =
-      let none : All NoReadOfWriter log = All-weaker (Regular k) NoReadOfWriter (λ e h. h.reader) log regular in
+      let none : AllByRecursion NoReadOfWriter log = All-weaker (Regular k) NoReadOfWriter (λ e h. h.reader) log regular in
       let faith = tells_calls (params_of k) fit k.initial log b trace in
       record {
         line = from_line k.initial log none (linearizable (params_of k) fit k.initial log b trace) faith (numbered (params_of k) fit k.initial log b trace);
@@ -44,5 +44,5 @@ module _ (k : Checked) (fit : Fit (params_of k)) (log : List Entry) (b : State) 
 pub lawful : AllTraced → ((k : Checked) → Fit (params_of k)) → Laws
 lawful traced fits k places room es w past =
     let t = traced k places es w past in
-    let old : All (Regular k) (oldest (reverse es)) = subst (All (Regular k)) (sym (oldest_reverse es)) (regular traced k places es w past) in
+    let old : AllByRecursion (Regular k) (oldest (reverse es)) = subst (AllByRecursion (Regular k)) (sym (oldest_reverse es)) (regular traced k places es w past) in
     subst (Lawful k w) (oldest_reverse es) (from_trace k (fits k) (reverse es) t.state t.trace w t.matches.waiting (all_oldest (Regular k) (reverse es) old))

@@ -1,6 +1,6 @@
 -- The rounds of the operations of a past, from those of the model's calls. It ends in from-rounds.
 use Rattle.std.proofs.Common.{◌≡◌, ℕ, zero, suc, ◌+◌, ◌*◌, ◌<◌, ◌≤◌, ◌⊎◌, List, Some, Option, sym, ◌∙◌, subst, inl, inr, arith}
-use Rattle.std.specs.List.{ContainsAt as Has, AllByRecursion as All}
+use Rattle.std.specs.List.{ContainsAt as Has, AllByRecursion}
 use Rattle.std.proofs.ByRecursion.{all-has}
 use Rattle.orders.specs.Answers.{listed_as}
 use Rattle.register.specs.declared.settings.Checked.{Checked}
@@ -14,7 +14,7 @@ use Rattle.laws.proofs.Places.{oldest, at_log, begins_log, next_log}
 use Rattle.laws.proofs.Sent.{Regular}
 use Rattle.laws.proofs.Spans.{times, told_size, Spanned, spanned, said}
 
-module _ (k : Checked) (small : told_size k ≤ k.replicas) (log : List Entry) (regular : All (Regular k) log) (faith : Faithful log) (few : model.FewRounds (done log)) where
+module _ (k : Checked) (small : told_size k ≤ k.replicas) (log : List Entry) (regular : AllByRecursion (Regular k) log) (faith : Faithful log) (few : model.FewRounds (done log)) where
   -- the model's call of an operation that ended
   record TheCall (c i j : ℕ) (e : Entry) : Type 0 where
     call : Done
@@ -70,7 +70,7 @@ module _ (k : Checked) (small : told_size k ≤ k.replicas) (log : List Entry) (
             let r = the_call o.client o.begin x.place (inr (x.client, x.start)) x.ends in
             let s = the_call p.client p.begin y.place (inr (y.client, y.start)) y.ends in
             let e : x.place ≡ b.0 = some_same x.place b.0 (sym x.end ∙ b.1) in
-            let rest = all-has (λ y. All (λ x. x.rounds ≡ 2 → y.rounds ≡ 2 → x.version ≡ y.version → x.end < y.begin → ⊥) (done log)) (done log) s.call few.apart s.has in
+            let rest = all-has (λ y. AllByRecursion (λ x. x.rounds ≡ 2 → y.rounds ≡ 2 → x.version ≡ y.version → x.end < y.begin → ⊥) (done log)) (done log) s.call few.apart s.has in
             all-has (λ x. x.rounds ≡ 2 → s.call.rounds ≡ 2 → x.version ≡ s.call.version → x.end < s.call.begin → ⊥) (done log) r.call rest r.has
             (sym r.rounds ∙ n) (sym s.rounds ∙ m) (r.version ∙ sym x.version ∙ v ∙ y.version ∙ sym s.version) (omega (arith, r.end, e, b.2, s.begin));
       }

@@ -2,7 +2,7 @@
 use Rattle.std.proofs.Common.{◌≡◌, ℕ, zero, suc, ◌+◌, ◌*◌, ◌<◌, ◌≤◌, cond, ltb, ◌⊎◌, List, [], ◌∷◌, ℤ, sym, refl, ap, ◌∙◌, subst, inl, inr, arith}
 use Rattle.std.proofs.ByRecursion.{All-weaker}
 use Rattle.std.proofs.lemmas.Bool.{cases_eq, cond_both, ltb-false, ltb-true}
-use Rattle.std.specs.List.{ContainsAt as Has, AllByRecursion as All}
+use Rattle.std.specs.List.{ContainsAt as Has, AllByRecursion}
 use Rattle.laws.proofs.Sets.{Lacks, Distinct}
 use Rattle.laws.proofs.Line.{Op, Before, Respects, Shows, ends_of}
 use Rattle.laws.proofs.Members.{has_here, has_there}
@@ -39,17 +39,17 @@ insert d (x ∷ xs) = cond (ltb (key d) (key x)) (d ∷ x ∷ xs) (x ∷ insert 
 
 abbrev pub Sorted : List Op → Type 0
 Sorted [] = Unit {0}
-Sorted (x ∷ xs) = All (λ y. key x ≤ key y) xs × Sorted xs
+Sorted (x ∷ xs) = AllByRecursion (λ y. key x ≤ key y) xs × Sorted xs
 
 -- the call is in the line, by cases
 abbrev pub In : Op → List Op → Type 0
 In x [] = ⊥
 In x (y ∷ ys) = (x ≡ y) ⊎ In x ys
 
-pub all_insert : (P : Op → Type 0) (d : Op) (xs : List Op) → P d → All P xs → All P (insert d xs)
+pub all_insert : (P : Op → Type 0) (d : Op) (xs : List Op) → P d → AllByRecursion P xs → AllByRecursion P (insert d xs)
 all_insert P d [] p h = (p, tt)
 all_insert P d (x ∷ xs) p h =
-    cond_both (ltb (key d) (key x)) _ _ (All P) (λ e. (p, h)) (λ e. (h.0, all_insert P d xs p h.1))
+    cond_both (ltb (key d) (key x)) _ _ (AllByRecursion P) (λ e. (p, h)) (λ e. (h.0, all_insert P d xs p h.1))
 
 pub in_insert : (d : Op) (xs : List Op) → In d (insert d xs)
 in_insert d [] = inl refl
@@ -68,14 +68,14 @@ sorted_insert d (x ∷ xs) h =
     (λ e. let k : key x ≤ key d = ltb-false _ _ e in (all_insert _ d xs k h.0, sorted_insert d xs h.1))
 
 -- A call put into a line that respects what ended before what began: none in the line began after it ended, and none behind its place ended before it began.
-pub respects_insert : (d : Op) (xs : List Op) → Sorted xs → Respects xs → All (λ x. Before d x → ⊥) xs → All (λ y. key d < key y → Before y d → ⊥) xs → Respects (insert d xs)
+pub respects_insert : (d : Op) (xs : List Op) → Sorted xs → Respects xs → AllByRecursion (λ x. Before d x → ⊥) xs → AllByRecursion (λ y. key d < key y → Before y d → ⊥) xs → Respects (insert d xs)
 respects_insert d [] s r p q = (tt, tt)
 respects_insert d (x ∷ xs) s r p q =
     cond_both (ltb (key d) (key x)) _ _ Respects
     (λ e. let k : key d < key x = ltb-true _ _ e in ((q.0 k, after k xs s.0 q.1), r))
     (λ e. (all_insert _ d xs p.0 r.0, respects_insert d xs s.1 r.1 p.1 q.1))
   where
-    after : key d < key x → (ys : List Op) → All (λ y. key x ≤ key y) ys → All (λ y. key d < key y → Before y d → ⊥) ys → All (λ y. Before y d → ⊥) ys
+    after : key d < key x → (ys : List Op) → AllByRecursion (λ y. key x ≤ key y) ys → AllByRecursion (λ y. key d < key y → Before y d → ⊥) ys → AllByRecursion (λ y. Before y d → ⊥) ys
     after k [] a b = tt
     after k (y ∷ ys) a b = (b.0 (let u : key x ≤ key y = a.0 in omega arith), after k ys a.1 b.1)
 
@@ -90,7 +90,7 @@ once_insert d (x ∷ xs) h new =
     cond_both (ltb (key d) (key x)) _ _ (λ (ys : List Op). Distinct (ends_of ys)) (λ e. (new, h))
     (λ e. (lacks_insert x.end d xs (λ q. new.0 (sym q)) h.0, once_insert d xs h.1 new.1))
 
-pub all_ends : (P : ℕ → Type 0) (xs : List Op) → All (λ x. P x.end) xs → All P (ends_of xs)
+pub all_ends : (P : ℕ → Type 0) (xs : List Op) → AllByRecursion (λ x. P x.end) xs → AllByRecursion P (ends_of xs)
 all_ends P [] h = tt
 all_ends P (x ∷ xs) h = (h.0, all_ends P xs h.1)
 
@@ -112,26 +112,26 @@ pub record HasWrite (v : ℕ) (z : ℤ) (xs : List Op) : Type 0 where
 -- no two writes of one version
 abbrev pub OneWrite : List Op → Type 0
 OneWrite [] = Unit {0}
-OneWrite (x ∷ xs) = All (λ y. x.client ≡ 0 → y.client ≡ 0 → x.version ≡ y.version → ⊥) xs × OneWrite xs
+OneWrite (x ∷ xs) = AllByRecursion (λ y. x.client ≡ 0 → y.client ≡ 0 → x.version ≡ y.version → ⊥) xs × OneWrite xs
 
-pub one_write_insert : (d : Op) (xs : List Op) → OneWrite xs → All (λ x. d.client ≡ 0 → x.client ≡ 0 → d.version ≡ x.version → ⊥) xs → OneWrite (insert d xs)
+pub one_write_insert : (d : Op) (xs : List Op) → OneWrite xs → AllByRecursion (λ x. d.client ≡ 0 → x.client ≡ 0 → d.version ≡ x.version → ⊥) xs → OneWrite (insert d xs)
 one_write_insert d [] s a = (tt, tt)
 one_write_insert d (x ∷ xs) s a =
     cond_both (ltb (key d) (key x)) _ _ OneWrite (λ e. (a, s))
     (λ e. (all_insert _ d xs (λ p q r. a.0 q p (sym r)) s.0, one_write_insert d xs s.1 a.1))
 
-all_in : (P : Op → Type 0) (x : Op) (xs : List Op) → All P xs → In x xs → P x
+all_in : (P : Op → Type 0) (x : Op) (xs : List Op) → AllByRecursion P xs → In x xs → P x
 all_in P x [] h i = absurd i
 all_in P x (y ∷ ys) h (inl e) = subst P (sym e) h.0
 all_in P x (y ∷ ys) h (inr i) = all_in P x ys h.1 i
 
-all_zip : (P Q R : Op → Type 0) → ((x : Op) → P x → Q x → R x) → (xs : List Op) → All P xs → All Q xs → All R xs
+all_zip : (P Q R : Op → Type 0) → ((x : Op) → P x → Q x → R x) → (xs : List Op) → AllByRecursion P xs → AllByRecursion Q xs → AllByRecursion R xs
 all_zip P Q R f [] p q = tt
 all_zip P Q R f (x ∷ xs) p q = (f x p.0 q.0, all_zip P Q R f xs p.1 q.1)
 
 -- In a sorted line each read shows the nearest write before it, if its write is in the line, or it shows what stood before the line.
-pub sorted_shows : (v : ℕ) (z : ℤ) (xs : List Op) → Sorted xs → OneWrite xs → All (λ x. x.client ≡ 0 → v < x.version) xs
-    → All (λ x. (x.client ≡ 0 → ⊥) → ((x.version ≡ v) × (x.value ≡ z)) ⊎ HasWrite x.version x.value xs) xs → Shows v z xs
+pub sorted_shows : (v : ℕ) (z : ℤ) (xs : List Op) → Sorted xs → OneWrite xs → AllByRecursion (λ x. x.client ≡ 0 → v < x.version) xs
+    → AllByRecursion (λ x. (x.client ≡ 0 → ⊥) → ((x.version ≡ v) × (x.value ≡ z)) ⊎ HasWrite x.version x.value xs) xs → Shows v z xs
 sorted_shows v z [] s u a r = tt
 sorted_shows v z (x ∷ xs) s u a r =
     elim (cases_eq x.client 0) [
@@ -163,7 +163,7 @@ sorted_shows v z (x ∷ xs) s u a r =
           | inr q ↦ inr (record { call = e.call; has = q; writer = e.writer; version = e.version; value = e.value })
         ]
 
-    rest : (x.client ≡ 0 → ⊥) → All (λ y. (y.client ≡ 0 → ⊥) → ((y.version ≡ v) × (y.value ≡ z)) ⊎ HasWrite y.version y.value xs) xs
+    rest : (x.client ≡ 0 → ⊥) → AllByRecursion (λ y. (y.client ≡ 0 → ⊥) → ((y.version ≡ v) × (y.value ≡ z)) ⊎ HasWrite y.version y.value xs) xs
     rest c =
         (All-weaker _ _ (λ y q reader. elim (q reader) [
           | inl e ↦ inl e

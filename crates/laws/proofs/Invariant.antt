@@ -2,7 +2,7 @@
 use Rattle.std.proofs.Common.{◌≡◌, ℕ, suc, ◌+◌, ◌*◌, ◌<◌, ◌≤◌, true, false, eqb, ◌⊎◌, List, [], ◌∷◌, length, ℤ, sym, refl, ap, ◌∙◌, subst, inl, inr, arith, pow_pos}
 use Rattle.std.proofs.ByRecursion.{All-weaker}
 use Rattle.std.proofs.lemmas.Bool.{cases_lt}
-use Rattle.std.specs.List.{AllByRecursion as All}
+use Rattle.std.specs.List.{AllByRecursion}
 use Rattle.wire.specs.declared.message.Message.{Message}
 use Rattle.orders.specs.Answers.{listed_as}
 use Rattle.orders.specs.declared.answer.Answer.TheVariants.{BecameDue}
@@ -112,7 +112,7 @@ module _ (g : Params) (fit : Fit g) (f : ℤ) where
     top_begun : highest (slip m ∷ ss) ≤ length (values log)
     top_begun = go (slip m ∷ ss) got.fine
       where
-        go : (ys : List Slip) → All (λ s. CardFine g (values log) f s.card) ys → highest ys ≤ length (values log)
+        go : (ys : List Slip) → AllByRecursion (λ s. CardFine g (values log) f s.card) ys → highest ys ≤ length (values log)
         go [] h = omega arith
         go (y ∷ ys) h = omega (arith, h.0.begun, go ys h.1)
 

@@ -1,6 +1,6 @@
 -- One line of all calls of a log.
 use Rattle.std.proofs.Common.{◌≡◌, ℕ, zero, suc, ◌+◌, ◌*◌, ◌<◌, ◌≤◌, Bool, true, false, cond, not, ◌&&◌, ◌||◌, eqb, ltb, ◌⊎◌, List, [], ◌∷◌, length, ℤ}
-use Rattle.std.specs.List.{ContainsAt as Has, AllByRecursion as All}
+use Rattle.std.specs.List.{ContainsAt as Has, AllByRecursion}
 use Rattle.laws.proofs.Sets.{Distinct}
 use Rattle.laws.proofs.Cards.{Params, Fit}
 use Rattle.register.specs.Past.{Entry}
@@ -26,7 +26,7 @@ Before x y = (x.ended ≡ true) × (x.end < y.begin)
 -- what ended before another began stands before it
 abbrev pub Respects : List Op → Type 0
 Respects [] = Unit {0}
-Respects (x ∷ xs) = All (λ y. Before y x → ⊥) xs × Respects xs
+Respects (x ∷ xs) = AllByRecursion (λ y. Before y x → ⊥) xs × Respects xs
 
 -- each read shows the nearest write before it; so far that is version v with value z
 abbrev pub Shows : ℕ → ℤ → List Op → Type 0
@@ -65,11 +65,11 @@ pub record Pending (log : List Entry) (x : Op) : Type 0 where
 pub record Line (f : ℤ) (log : List Entry) : Type 0 where
   pub line : List Op
   pub once : Distinct (ends_of line)
-  pub only : All (λ x. ((d : Done) × Has (done log) d × (x ≡ op d)) ⊎ Pending log x) line
-  pub ended : All (λ d. Has line (op d)) (done log)
+  pub only : AllByRecursion (λ x. ((d : Done) × Has (done log) d × (x ≡ op d)) ⊎ Pending log x) line
+  pub ended : AllByRecursion (λ d. Has line (op d)) (done log)
   pub pending : (Wrote (done log) (length (values log)) → ⊥) → 1 ≤ length (values log) → Showed (done log) (length (values log)) → (x : Op) × Has line x × Pending log x
   pub respects : Respects line
-  pub given : All (λ x. x.value ≡ value_at (values log) f x.version) line
+  pub given : AllByRecursion (λ x. x.value ≡ value_at (values log) f x.version) line
   pub shows : Shows 0 f line
 
 abbrev pub Linearizable : Type 0

@@ -1,6 +1,6 @@
 -- Calls: one that is accepted is a step of the model, as is one that is sent back. It ends in `called_reaches`.
 use Rattle.std.proofs.Common.{◌≡◌, ℕ, zero, suc, ◌+◌, ◌-◌, ◌*◌, ◌%◌, ◌^◌, ◌<◌, ◌≤◌, Bool, true, false, cond, eqb, ltb, leb, List, [], ◌∷◌, ◌++◌, map, length, get_or, set, ℤ, Some, None, Option, sym, refl, ap, ◌∙◌, subst, inl, inr, mul-le-mul_right, arith, lit<, lit≤}
-use Rattle.std.specs.List.{AllByRecursion as All}
+use Rattle.std.specs.List.{AllByRecursion}
 use Rattle.std.specs.List.Sorted.{IsPermutation}
 use Rattle.std.proofs.lemmas.List.{map-append, length-replicate, length-set}
 use Rattle.std.proofs.ByRecursion.{All-append, All-push}
@@ -69,7 +69,7 @@ module _ (m : Message) (kd : model.Kind) (c r : ℕ) (d : Card) (is : (i : ℕ) 
       (subst (Same (sent kd c r d n ++ map msg_of vs)) (sym (map-append msg_of (copies m n) vs))
       (same_append (sent kd c r d n) (map msg_of (copies m n)) (map msg_of vs) (copies_same n)))
 
-copies_proper : (k : Checked) (m : Message) (n : ℕ) → n ≤ k.replicas → 1 ≤ m.kind → m.kind ≤ 6 → m.client ≤ k.readers → m.marks < 256 → All (Proper k) (copies m n)
+copies_proper : (k : Checked) (m : Message) (n : ℕ) → n ≤ k.replicas → 1 ≤ m.kind → m.kind ≤ 6 → m.client ≤ k.readers → m.marks < 256 → AllByRecursion (Proper k) (copies m n)
 copies_proper k m zero l a b c d = tt
 copies_proper k m (suc n) l a b c d =
     All-push (Proper k) (copies m n) (toward m n) (copies_proper k m n (omega arith) a b c d)

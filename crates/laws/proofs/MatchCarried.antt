@@ -1,6 +1,6 @@
 -- A message that is taken from the channel: it is never stray, and one that does nothing is lost in the model too. It ends in `nothing_reaches`.
 use Rattle.std.proofs.Common.{◌≡◌, ◌-◌, ◌≤◌, true, false, ltb, leb, ◌⊎◌, List, ◌∷◌, map, refl, ap, ◌∙◌, arith}
-use Rattle.std.specs.List.{AllByRecursion as All}
+use Rattle.std.specs.List.{AllByRecursion}
 use Rattle.std.specs.List.Sorted.{IsPermutation}
 use Rattle.std.proofs.lemmas.Bool.{le-ltb, lt-leb, or_from, cond-true, cond-false}
 use Rattle.wire.specs.declared.message.Message.{Message}
@@ -24,7 +24,7 @@ pub record Taken (k : Checked) (log : List Entry) (r : Register) (m : Message) (
   pub matches : RegisterMatches k r state
   pub takes : Takes (msg_of m) state.waiting (map msg_of rest)
   pub proper : Proper k m
-  pub others : All (Proper k) rest
+  pub others : AllByRecursion (Proper k) rest
 
 -- ---- the cases of a message
 

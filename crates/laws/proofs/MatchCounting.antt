@@ -1,7 +1,7 @@
 -- Counting replies: what the rules count is what the model counts, and one more keeps that. It ends in `readings_counted`.
 use Rattle.std.proofs.Common.{◌≡◌, ℕ, suc, ◌+◌, ◌-◌, ◌<◌, true, false, not, eqb, ltb, List, [], ◌∷◌, ◌++◌, map, reverse, length, take, set, sym, refl, ap, ◌∙◌, subst, arith}
 use mathlib.Core.List.{reverse_aux, reverse_aux-append}
-use Rattle.std.specs.List.{AllByRecursion as All}
+use Rattle.std.specs.List.{AllByRecursion}
 use Rattle.std.proofs.lemmas.List.{take_more_set, length-set, map-append, reverse-reverse}
 use Rattle.std.proofs.ByRecursion.{All-push}
 use Rattle.std.proofs.lemmas.Bool.{and_parts, and_from, or_parts, or_from, ltb-true, lt-ltb, not-true, not_from_false, eqb-false, ne_eqb, cond-true}
@@ -21,11 +21,11 @@ use Rattle.laws.proofs.Matching.{msg_of, reading_slip, ReceiptsMatch, ReadingsAr
 
 -- ---- who is counted
 
-all_reverse_onto : {A : Type 0} (P : A → Type 0) (xs ys : List A) → All P xs → All P ys → All P (reverse_aux xs ys)
+all_reverse_onto : {A : Type 0} (P : A → Type 0) (xs ys : List A) → AllByRecursion P xs → AllByRecursion P ys → AllByRecursion P (reverse_aux xs ys)
 all_reverse_onto P [] ys a b = b
 all_reverse_onto P (x ∷ xs) ys a b = all_reverse_onto P xs (x ∷ ys) a.1 (a.0, b)
 
-pub all_reverse : {A : Type 0} (P : A → Type 0) (xs : List A) → All P xs → All P (reverse xs)
+pub all_reverse : {A : Type 0} (P : A → Type 0) (xs : List A) → AllByRecursion P xs → AllByRecursion P (reverse xs)
 all_reverse P xs a = all_reverse_onto P xs [] a tt
 
 pub lacks_from_not : {X : Type 0} (f : X → ℕ) (n : ℕ) (xs : List X) → from f n xs ≡ false → Lacks n (map f xs)
@@ -125,7 +125,7 @@ readings_counted need rs ss m byte h e =
     record {
       same = ap (λ ts. model.slip (msg_of m) ∷ ts) h.counted.same ∙ sym (map_reverse_more reading_slip old (reading_of m)) ∙ ap (λ ys. reverse (map reading_slip ys)) (sym all);
       once = once_added reading_from rs.slips rs.got (reading_of m) (sym e) h.counted.once;
-      bytes = subst (All (λ x. x.marks < 256)) (sym all) (All-push (λ x. x.marks < 256) old (reading_of m) h.counted.bytes byte);
+      bytes = subst (AllByRecursion (λ x. x.marks < 256)) (sym all) (All-push (λ x. x.marks < 256) old (reading_of m) h.counted.bytes byte);
     } in
     record {
       fresh = lacks_if_adds reading_from rs.slips rs.got ss (replicas_of_readings old ss h.counted.same) (reading_of m) e;

@@ -2,7 +2,7 @@
 use Rattle.std.proofs.Common.{◌≡◌, ℕ, suc, ◌+◌, ◌-◌, ◌*◌, ◌<◌, ◌≤◌, max, Bool, true, false, cond, ◌||◌, eqb, ltb, leb, ◌⊎◌, List, [], ◌∷◌, map, length, fold, filter, sym, refl, ap, ◌∙◌, inl, inr, mul-le-mul_right, arith}
 use mathlib.Core.List.{reverse_aux}
 use lib.Bits.{bit_and, and_comm, and_le_r}
-use Rattle.std.specs.List.{ContainsAt as Has, AllByRecursion as All, best_of}
+use Rattle.std.specs.List.{ContainsAt as Has, AllByRecursion, best_of}
 use Rattle.std.proofs.ByRecursion.{all-has, all_kept_by, All-weaker, kept_by_passes, has_get_or, has_append_right}
 use Rattle.std.proofs.lemmas.List.{length-reverse, length-map}
 use Rattle.std.proofs.lemmas.Bool.{cases_lt, cond_both, both_ways, eqb-true, eqb-false, eq-eqb, leb-true, leb-false, le-leb, and_parts, and_from, or_cases, or_parts}
@@ -49,16 +49,16 @@ top_of s (t ∷ ss) = top_more s (t ∷ ss) (top_of t ss)
 
 -- ---- the reply of the lowest replica
 
-all_best : (P : Reading → Type 0) (lt : Reading → Reading → Bool) (x : Reading) (xs : List Reading) → P x → All P xs → P (best_of lt x xs)
+all_best : (P : Reading → Type 0) (lt : Reading → Reading → Bool) (x : Reading) (xs : List Reading) → P x → AllByRecursion P xs → P (best_of lt x xs)
 all_best P lt x [] a h = a
 all_best P lt x (y ∷ ys) a h = all_best P lt (cond (lt y x) y x) ys (cond_both (lt y x) y x P (λ e. h.0) (λ e. a)) h.1
 
-all_lowest : (P : Reading → Type 0) (xs : List Reading) → 0 < length xs → All P xs → P (lowest_of xs)
+all_lowest : (P : Reading → Type 0) (xs : List Reading) → 0 < length xs → AllByRecursion P xs → P (lowest_of xs)
 all_lowest P [] l h = absurd (let z : ⊥ = omega arith in z)
 all_lowest P (x ∷ xs) l h = all_best P (λ y z. ltb y.replica z.replica) x xs h.0 h.1
 
 -- a reading that passes is kept
-kept_some : (p : Reading → Bool) (xs : List Reading) → All (λ x. p x ≡ true → 0 < length (filter p xs)) xs
+kept_some : (p : Reading → Bool) (xs : List Reading) → AllByRecursion (λ x. p x ≡ true → 0 < length (filter p xs)) xs
 kept_some p [] = tt
 kept_some p (x ∷ xs) = (
   cond_both (p x) (x ∷ filter p xs) (filter p xs) (λ (ys : List Reading). p x ≡ true → 0 < length ys) (λ e q. omega arith) (λ e q. absurd (both_ways (p x) e q)),
@@ -108,10 +108,10 @@ module _ (k : Checked) (xs : List Reading) (ss : List Slip) (r : ReadingsAre xs 
   common_byte : (common need : ℕ) → 0 < need → Several ss need (λ c. (c.version ≡ highest ss) × Within common c.marks) → common < 256
   common_byte common need l v = go v.chosen v.from v.each (omega (arith, v.enough))
     where
-      bytes : All (λ s. s.card.marks < 256) ss
+      bytes : AllByRecursion (λ s. s.card.marks < 256) ss
       bytes = all_slips xs ss r (λ s. s.card.marks < 256) r.bytes
 
-      go : (ys : List Slip) → All (Has ss) ys → All (λ s. (s.card.version ≡ highest ss) × Within common s.card.marks) ys → 0 < length ys → common < 256
+      go : (ys : List Slip) → AllByRecursion (Has ss) ys → AllByRecursion (λ s. (s.card.version ≡ highest ss) × Within common s.card.marks) ys → 0 < length ys → common < 256
       go [] f e n = absurd (let z : ⊥ = omega arith in z)
       go (y ∷ ys) f e n =
           let b : y.card.marks < 256 = all-has (λ s. s.card.marks < 256) ss y bytes f.0 in
@@ -184,7 +184,7 @@ module _ (k : Checked) (xs : List Reading) (ss : List Slip) (r : ReadingsAre xs 
   lowest_is : 0 < length xs → Has ss (reading_slip (lowest_at h xs)) × ((lowest_at h xs).version ≡ highest ss)
   lowest_is l =
       let t : Top ss = some_top ss (omega (arith, lengths)) in
-      let found : All (λ (s : Slip). s.card.version ≡ highest ss → 0 < length (filter (λ s. eqb s.version h) xs)) ss =
+      let found : AllByRecursion (λ (s : Slip). s.card.version ≡ highest ss → 0 < length (filter (λ s. eqb s.version h) xs)) ss =
       all_slips xs ss r (λ s. s.card.version ≡ highest ss → 0 < length (filter (λ s. eqb s.version h) xs))
       (All-weaker (λ (x : Reading). eqb x.version h ≡ true → 0 < length (filter (λ s. eqb s.version h) xs)) (λ (x : Reading). x.version ≡ highest ss → 0 < length (filter (λ s. eqb s.version h) xs))
       (λ x f e. f (eq-eqb x.version h (e ∙ sym level))) xs (kept_some (λ s. eqb s.version h) xs)) in

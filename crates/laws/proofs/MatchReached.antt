@@ -1,6 +1,6 @@
 -- A log with a world that a trace of the model reaches, up to the order of the waiting messages. It ends in `refused_reaches`.
 use Rattle.std.proofs.Common.{◌≡◌, ℕ, List, ◌∷◌, map, sym, refl, subst}
-use Rattle.std.specs.List.{AllByRecursion as All}
+use Rattle.std.specs.List.{AllByRecursion}
 use Rattle.std.specs.List.Sorted.{IsPermutation}
 use Rattle.std.proofs.lemmas.List.Sorted.{IsPermutation-sym}
 use Rattle.std.proofs.ByRecursion.{all_shuffled}
@@ -27,7 +27,7 @@ pub register_drops : (k : Checked) (r : Register) (b : model.State) (ms : List m
 register_drops k r b ms h = record { settings = h.settings; rows = h.rows; outs = h.outs; clients = h.clients }
 
 -- a state whose waiting messages are those of the world, in another order, reaches it
-pub reached_by : (k : Checked) (log : List Entry) (w : World) (b : model.State) → model.Trace (params_of k) k.initial log b → RegisterMatches k w.register b → Same b.waiting (map msg_of w.waiting) → All (Proper k) w.waiting → Reached k log w
+pub reached_by : (k : Checked) (log : List Entry) (w : World) (b : model.State) → model.Trace (params_of k) k.initial log b → RegisterMatches k w.register b → Same b.waiting (map msg_of w.waiting) → AllByRecursion (Proper k) w.waiting → Reached k log w
 reached_by k log w b t h s p =
     record {
       state = model.drops b (map msg_of w.waiting);
@@ -37,7 +37,7 @@ reached_by k log w b t h s p =
 
 -- the same, from the rules' own list of the messages that wait
 pub reached_with : (k : Checked) (log : List Entry) (w : World) (r : Register) (ms : List Message) (b : model.State) → model.Trace (params_of k) k.initial log b → w.register ≡ r → RegisterMatches k r b
-    → IsPermutation w.waiting ms → Same b.waiting (map msg_of ms) → All (Proper k) ms → Reached k log w
+    → IsPermutation w.waiting ms → Same b.waiting (map msg_of ms) → AllByRecursion (Proper k) ms → Reached k log w
 reached_with k log w r ms b t e h s i p =
     reached_by k log w b t (subst (λ x. RegisterMatches k x b) (sym e) h)
     (same_then b.waiting (map msg_of ms) (map msg_of w.waiting) i (shuffled_same ms w.waiting (IsPermutation-sym w.waiting ms s)))

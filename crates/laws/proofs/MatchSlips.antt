@@ -1,6 +1,6 @@
 -- Sets of slips and counts of readings: a set of m exists exactly if at least m readings pass. It ends in `count_from_several`.
 use Rattle.std.proofs.Common.{◌≡◌, ℕ, suc, ◌-◌, ◌≤◌, Bool, true, cond, eqb, ◌⊎◌, List, [], ◌∷◌, map, reverse, length, count_by, filter, sym, refl, ap, ◌∙◌, subst, inl, inr, arith}
-use Rattle.std.specs.List.{ContainsAt as Has, AllByRecursion as All}
+use Rattle.std.specs.List.{ContainsAt as Has, AllByRecursion}
 use Rattle.std.proofs.lemmas.List.{reverse-reverse, length-map}
 use Rattle.std.proofs.ByRecursion.{All-map, all-has, all_has_itself, all_kept_by, All-weaker, kept_by_passes}
 use Rattle.std.proofs.lemmas.List.Sums.{length-filter}
@@ -39,11 +39,11 @@ without_keeps x z (y ∷ ys) n (inr h) =
     let ih : Among z (without x ys) = without_keeps x z ys n h in
     cond_both (eqb x y) ys (y ∷ without x ys) (λ zs. Among z zs) (λ q. h) (λ q. inr ih)
 
-all_kept_without : (x : ℕ) (ys zs : List ℕ) → Lacks x zs → All (λ z. Among z ys) zs → All (λ z. Among z (without x ys)) zs
+all_kept_without : (x : ℕ) (ys zs : List ℕ) → Lacks x zs → AllByRecursion (λ z. Among z ys) zs → AllByRecursion (λ z. Among z (without x ys)) zs
 all_kept_without x ys [] a b = tt
 all_kept_without x ys (z ∷ zs) a b = (without_keeps x z ys (λ e. a.0 (sym e)) b.0, all_kept_without x ys zs a.1 b.1)
 
-no_longer : (xs ys : List ℕ) → Distinct xs → All (λ x. Among x ys) xs → length xs ≤ length ys
+no_longer : (xs ys : List ℕ) → Distinct xs → AllByRecursion (λ x. Among x ys) xs → length xs ≤ length ys
 no_longer [] ys d h = omega arith
 no_longer (x ∷ xs) ys d h =
     let ih : length xs ≤ length (without x ys) = no_longer xs (without x ys) d.1 (all_kept_without x ys xs d.0 h.1) in
@@ -52,7 +52,7 @@ no_longer (x ∷ xs) ys d h =
 
 -- ---- readings and their slips
 
-all_from_map : {A B : Type 0} (P : B → Type 0) (f : A → B) (xs : List A) → All P (map f xs) → All (λ x. P (f x)) xs
+all_from_map : {A B : Type 0} (P : B → Type 0) (f : A → B) (xs : List A) → AllByRecursion P (map f xs) → AllByRecursion (λ x. P (f x)) xs
 all_from_map P f [] h = tt
 all_from_map P f (x ∷ xs) h = (h.0, all_from_map P f xs h.1)
 
@@ -68,12 +68,12 @@ length_replicas : (ss : List Slip) → length (replicas_of ss) ≡ length ss
 length_replicas [] = refl
 length_replicas (s ∷ ss) = ap suc (length_replicas ss)
 
-all_replicas : (P : ℕ → Type 0) (ss : List Slip) → All (λ s. P s.replica) ss → All P (replicas_of ss)
+all_replicas : (P : ℕ → Type 0) (ss : List Slip) → AllByRecursion (λ s. P s.replica) ss → AllByRecursion P (replicas_of ss)
 all_replicas P [] h = tt
 all_replicas P (s ∷ ss) h = (h.0, all_replicas P ss h.1)
 
 -- every reading passes into the count of those that pass
-passes_in : (p : Reading → Bool) (xs : List Reading) → All (λ x. p x ≡ true → Among x.replica (map reading_from (filter p xs))) xs
+passes_in : (p : Reading → Bool) (xs : List Reading) → AllByRecursion (λ x. p x ≡ true → Among x.replica (map reading_from (filter p xs))) xs
 passes_in p [] = tt
 passes_in p (x ∷ xs) = (
   cond_both (p x) (x ∷ filter p xs) (filter p xs) (λ (ys : List Reading). p x ≡ true → Among x.replica (map reading_from ys)) (λ e q. inl refl) (λ e q. absurd (both_ways (p x) e q)),
@@ -83,14 +83,14 @@ passes_in p (x ∷ xs) = (
 
 module _ (xs : List Reading) (ss : List Slip) (h : ReadingsAre xs ss) where
   -- what holds of every slip and what holds of every reading
-  pub all_slips : (P : Slip → Type 0) → All (λ x. P (reading_slip x)) xs → All P ss
-  all_slips P a = subst (All P) (sym h.same) (all_reverse P (map reading_slip xs) (All-map P reading_slip xs a))
+  pub all_slips : (P : Slip → Type 0) → AllByRecursion (λ x. P (reading_slip x)) xs → AllByRecursion P ss
+  all_slips P a = subst (AllByRecursion P) (sym h.same) (all_reverse P (map reading_slip xs) (All-map P reading_slip xs a))
 
-  pub slips_have : All (λ x. Has ss (reading_slip x)) xs
+  pub slips_have : AllByRecursion (λ x. Has ss (reading_slip x)) xs
   slips_have =
-      let a : All (Has (reverse (map reading_slip xs))) (reverse (reverse (map reading_slip xs))) = all_reverse (Has (reverse (map reading_slip xs))) (reverse (map reading_slip xs)) (all_has_itself (reverse (map reading_slip xs))) in
-      let b : All (Has (reverse (map reading_slip xs))) (map reading_slip xs) = subst (All (Has (reverse (map reading_slip xs)))) (reverse-reverse (map reading_slip xs)) a in
-      subst (λ ts. All (λ x. Has ts (reading_slip x)) xs) (sym h.same) (all_from_map (Has (reverse (map reading_slip xs))) reading_slip xs b)
+      let a : AllByRecursion (Has (reverse (map reading_slip xs))) (reverse (reverse (map reading_slip xs))) = all_reverse (Has (reverse (map reading_slip xs))) (reverse (map reading_slip xs)) (all_has_itself (reverse (map reading_slip xs))) in
+      let b : AllByRecursion (Has (reverse (map reading_slip xs))) (map reading_slip xs) = subst (AllByRecursion (Has (reverse (map reading_slip xs)))) (reverse-reverse (map reading_slip xs)) a in
+      subst (λ ts. AllByRecursion (λ x. Has ts (reading_slip x)) xs) (sym h.same) (all_from_map (Has (reverse (map reading_slip xs))) reading_slip xs b)
 
   pub several_from_count : (p : Reading → Bool) (P : Card → Type 0) (m : ℕ) → ((x : Reading) → p x ≡ true → P (reading_slip x).card) → m ≤ count_by p xs → Several ss m P
   several_from_count p P m tells l =
@@ -105,13 +105,13 @@ module _ (xs : List Reading) (ss : List Slip) (h : ReadingsAre xs ss) where
 
   pub count_from_several : (p : Reading → Bool) (P : Card → Type 0) (m : ℕ) → ((x : Reading) → P (reading_slip x).card → p x ≡ true) → Several ss m P → m ≤ count_by p xs
   count_from_several p P m told v =
-      let found : All (λ (s : Slip). P s.card → Among s.replica (map reading_from (filter p xs))) ss =
+      let found : AllByRecursion (λ (s : Slip). P s.card → Among s.replica (map reading_from (filter p xs))) ss =
       all_slips (λ s. P s.card → Among s.replica (map reading_from (filter p xs)))
       (All-weaker (λ (x : Reading). p x ≡ true → Among x.replica (map reading_from (filter p xs))) (λ (x : Reading). P (reading_slip x).card → Among x.replica (map reading_from (filter p xs))) (λ x f c. f (told x c)) xs (passes_in p xs)) in
       let l : length (replicas_of v.chosen) ≤ length (map reading_from (filter p xs)) =
       no_longer (replicas_of v.chosen) (map reading_from (filter p xs)) v.distinct (all_replicas (λ n. Among n (map reading_from (filter p xs))) v.chosen (go found v.chosen v.from v.each)) in
       omega (arith, v.enough, length_replicas v.chosen, length-map (filter p xs) reading_from, length-filter p xs)
     where
-      go : All (λ (s : Slip). P s.card → Among s.replica (map reading_from (filter p xs))) ss → (ys : List Slip) → All (Has ss) ys → All (λ s. P s.card) ys → All (λ s. Among s.replica (map reading_from (filter p xs))) ys
+      go : AllByRecursion (λ (s : Slip). P s.card → Among s.replica (map reading_from (filter p xs))) ss → (ys : List Slip) → AllByRecursion (Has ss) ys → AllByRecursion (λ s. P s.card) ys → AllByRecursion (λ s. Among s.replica (map reading_from (filter p xs))) ys
       go found [] f e = tt
       go found (y ∷ ys) f e = (all-has (λ s. P s.card → Among s.replica (map reading_from (filter p xs))) ss y found f.0 e.0, go found ys f.1 e.1)

@@ -1,7 +1,7 @@
 -- Every step of a world is a step of the model. It ends in `step_reaches`.
 use Rattle.std.proofs.Common.{◌≡◌, List, ◌∷◌, ◌++◌, map, sym, ◌∙◌, subst, inl, inr}
 use Rattle.std.specs.Option.{option_to_list}
-use Rattle.std.specs.List.{AllByRecursion as All}
+use Rattle.std.specs.List.{AllByRecursion}
 use Rattle.std.specs.List.Sorted.{IsPermutation}
 use Rattle.std.proofs.lemmas.List.Sorted.{IsPermutation-refl}
 use Rattle.std.proofs.ByRecursion.{all_shuffled}
@@ -27,7 +27,7 @@ use Rattle.laws.proofs.MatchDeciding.{AllJudged}
 module _ (judge : AllJudged) (k : Checked) (log : List Entry) (v w : World) (b : model.State) (t : model.Trace (params_of k) k.initial log b) (h : Matches k v b) where
   took : (m : Message) (rest : List Message) → IsPermutation v.waiting (m ∷ rest) → Taken k log v.register m rest
   took m rest s =
-      let p : All (Proper k) (m ∷ rest) = all_shuffled (Proper k) v.waiting (m ∷ rest) s h.proper in
+      let p : AllByRecursion (Proper k) (m ∷ rest) = all_shuffled (Proper k) v.waiting (m ∷ rest) s h.proper in
       record {
         state = model.drops b (map msg_of (m ∷ rest));
         trace = reordered k log v b (m ∷ rest) t h s;

@@ -1,6 +1,6 @@
 -- Tables as lists and as functions, and lists of waiting messages up to their order. It ends in `shuffled_same`.
 use Rattle.std.proofs.Common.{◌≡◌, ℕ, ◌+◌, ◌<◌, eqb, ◌⊎◌, List, [], ◌∷◌, ◌++◌, map, length, get_or, set, sym, refl, subst, inl, inr}
-use Rattle.std.specs.List.{AllByRecursion as All}
+use Rattle.std.specs.List.{AllByRecursion}
 use Rattle.std.specs.List.Sorted.{IsPermutation}
 use Rattle.std.proofs.lemmas.List.{get_or-set_same, get_or-set_other}
 use Rattle.std.proofs.lemmas.Bool.{cases_Bool, eqb-true, eqb-false}
@@ -61,15 +61,15 @@ in_cases x (y ∷ v) w (inl e) = inl (inl e)
 in_cases x (y ∷ v) w (inr h) =
     elim (in_cases x v w h) [ inl a ↦ inl (inr a) | inr a ↦ inr a ]
 
-all_in_more : (x : Msg) (w : List Msg) (ms : List Message) → All (λ m. InW (msg_of m) w) ms → All (λ m. InW (msg_of m) (x ∷ w)) ms
+all_in_more : (x : Msg) (w : List Msg) (ms : List Message) → AllByRecursion (λ m. InW (msg_of m) w) ms → AllByRecursion (λ m. InW (msg_of m) (x ∷ w)) ms
 all_in_more x w [] h = tt
 all_in_more x w (m ∷ ms) h = (inr h.0, all_in_more x w ms h.1)
 
-pub all_in_itself : (ms : List Message) → All (λ m. InW (msg_of m) (map msg_of ms)) ms
+pub all_in_itself : (ms : List Message) → AllByRecursion (λ m. InW (msg_of m) (map msg_of ms)) ms
 all_in_itself [] = tt
 all_in_itself (m ∷ ms) = (inl refl, all_in_more (msg_of m) (map msg_of ms) ms (all_in_itself ms))
 
-pub in_from_all : (ms : List Message) (w : List Msg) → All (λ m. InW (msg_of m) w) ms → (x : Msg) → InW x (map msg_of ms) → InW x w
+pub in_from_all : (ms : List Message) (w : List Msg) → AllByRecursion (λ m. InW (msg_of m) w) ms → (x : Msg) → InW x (map msg_of ms) → InW x w
 in_from_all [] w h x i = elim i [ ]
 in_from_all (m ∷ ms) w h x (inl e) = subst (λ y. InW y w) (sym e) h.0
 in_from_all (m ∷ ms) w h x (inr i) = in_from_all ms w h.1 x i

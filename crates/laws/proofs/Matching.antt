@@ -1,6 +1,6 @@
 -- How a world of the register and a state of the model match.
 use Rattle.std.proofs.Common.{◌≡◌, ℕ, ◌+◌, ◌-◌, ◌*◌, ◌<◌, ◌≤◌, Bool, false, cond, eqb, ltb, List, [], map, reverse, length, get_or, take}
-use Rattle.std.specs.List.{AllByRecursion as All}
+use Rattle.std.specs.List.{AllByRecursion}
 use Rattle.wire.specs.declared.message.Message.{Message}
 use Rattle.quorum.specs.declared.slip.Reading.{Reading}
 use Rattle.quorum.specs.declared.receipts.Receipts.{Receipts}
@@ -49,7 +49,7 @@ pub record ReceiptsMatch (need : ℕ) (rs : Receipts) (ss : List Slip) : Type 0 
 pub record ReadingsAre (xs : List Reading) (ss : List Slip) : Type 0 where
   pub same : ss ≡ reverse (map reading_slip xs)
   pub once : Once (λ x. x.replica) xs
-  pub bytes : All (λ x. x.marks < 256) xs
+  pub bytes : AllByRecursion (λ x. x.marks < 256) xs
 
 pub record ReadingsMatch (need : ℕ) (rs : Readings) (ss : List Slip) : Type 0 where
   pub long : length rs.slips ≡ 32
@@ -124,7 +124,7 @@ pub record Matches (k : Checked) (w : World) (b : model.State) : Type 0 where
   pub register : RegisterMatches k w.register b
   -- the messages that wait
   pub waiting : map msg_of w.waiting ≡ b.waiting
-  pub proper : All (Proper k) w.waiting
+  pub proper : AllByRecursion (Proper k) w.waiting
 
 -- a past of the register, as a trace of the model that ends in a state that matches
 pub record Traced (k : Checked) (es : List Entry) (w : World) : Type 0 where

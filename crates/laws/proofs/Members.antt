@@ -1,7 +1,7 @@
 -- Lists of numbers as sets: ends in `no_longer`, distinct numbers that all stand in another list are no more than it has.
 use Rattle.std.proofs.Common.{◌≡◌, ℕ, suc, ◌≤◌, cond, eqb, ◌⊎◌, List, [], ◌∷◌, length, sym, refl, ◌∙◌, inl, inr, arith}
 use Rattle.std.proofs.lemmas.Bool.{cases_eq, cond_both, eqb-false, eqb-true}
-use Rattle.std.specs.List.{ContainsAt as Has, AllByRecursion as All}
+use Rattle.std.specs.List.{ContainsAt as Has, AllByRecursion}
 use Rattle.laws.proofs.Sets.{Lacks, Distinct}
 
 abbrev pub Among : ℕ → List ℕ → Type 0
@@ -45,14 +45,14 @@ without_keeps n i (x ∷ xs) ne a =
     (λ e. elim a [ inl q ↦ inl q | inr q ↦ inr (without_keeps n i xs ne q) ])
 
 -- Distinct numbers that all stand in another list are no more than it has.
-pub no_longer : (xs ys : List ℕ) → Distinct xs → All (λ x. Among x ys) xs → length xs ≤ length ys
+pub no_longer : (xs ys : List ℕ) → Distinct xs → AllByRecursion (λ x. Among x ys) xs → length xs ≤ length ys
 no_longer [] ys d h = omega arith
 no_longer (x ∷ xs) ys d h =
     let ih : length xs ≤ length (without x ys) = no_longer xs (without x ys) d.1 (go xs d.0 h.1) in
     let less : suc (length (without x ys)) ≤ length ys = without_less x ys h.0 in
     omega arith
   where
-    go : (zs : List ℕ) → Lacks x zs → All (λ z. Among z ys) zs → All (λ z. Among z (without x ys)) zs
+    go : (zs : List ℕ) → Lacks x zs → AllByRecursion (λ z. Among z ys) zs → AllByRecursion (λ z. Among z (without x ys)) zs
     go [] a b = tt
     go (z ∷ zs) a b = (without_keeps x z ys (λ e. a.0 (sym e)) b.0, go zs a.1 b.1)
 
@@ -64,6 +64,6 @@ has_here x xs = (0, omega arith, λ d. refl)
 pub has_there : {X : Type 0} (x y : X) (xs : List X) → Has xs y → Has (x ∷ xs) y
 has_there x y xs h = (suc h.0, omega (arith, h.1), h.2)
 
-pub all_two : {X : Type 0} (P Q : X → Type 0) (xs : List X) → All P xs → All Q xs → All (λ x. P x × Q x) xs
+pub all_two : {X : Type 0} (P Q : X → Type 0) (xs : List X) → AllByRecursion P xs → AllByRecursion Q xs → AllByRecursion (λ x. P x × Q x) xs
 all_two P Q [] p q = tt
 all_two P Q (x ∷ xs) p q = ((p.0, q.0), all_two P Q xs p.1 q.1)

@@ -8,7 +8,7 @@ use Rattle.orders.specs.declared.answer.Answer.{Answer}
 use Rattle.orders.specs.declared.answer.Answer.TheVariants.{Accepted, Replied, Counted, Ended, BecameDue}
 use Rattle.orders.specs.Answers.{listed_as}
 use Rattle.register.specs.Past.{Entry}
-use Rattle.std.specs.List.{ContainsAt as Has, AllByRecursion as All}
+use Rattle.std.specs.List.{ContainsAt as Has, AllByRecursion}
 use Rattle.laws.proofs.Sets.{Lacks, Distinct, Within}
 use Rattle.laws.proofs.Cards.{Params, Card, Slip, replicas_of, highest, Decision}
 

@@ -1,7 +1,7 @@
 -- The nth accepted write has version n: ends in `numbered`.
 use Rattle.std.proofs.Common.{◌≡◌, ℕ, suc, List, ◌∷◌, length, ℤ, sym, refl, ap, ◌∙◌, subst, inl, inr, arith}
 use Rattle.std.proofs.ByRecursion.{All-weaker}
-use Rattle.std.specs.List.{AllByRecursion as All}
+use Rattle.std.specs.List.{AllByRecursion}
 use Rattle.wire.specs.declared.message.Message.{Message}
 use Rattle.orders.specs.declared.answer.Answer.TheVariants.{Accepted}
 use Rattle.orders.specs.declared.order.Order.TheVariants.{Write, Carry}
@@ -20,10 +20,10 @@ EndedNo log d = d.client ≡ 0 → WriteNo log d.begin d.version
 
 -- what every past keeps of the numbers of its writes: those ended, and that under way
 record Numbers (log : List Entry) (clients : ℕ → Client) : Type 0 where
-  ended : All (EndedNo log) (done log)
+  ended : AllByRecursion (EndedNo log) (done log)
   running : ((clients 0).phase ≡ idle → ⊥) → WriteNo log (begun log 0) (clients 0).version
 
-ended_more : (x : Entry) (log : List Entry) (ds : List Done) → All (EndedNo log) ds → All (EndedNo (x ∷ log)) ds
+ended_more : (x : Entry) (log : List Entry) (ds : List Done) → AllByRecursion (EndedNo log) ds → AllByRecursion (EndedNo (x ∷ log)) ds
 ended_more x log ds h = All-weaker _ _ (λ d p e. inr (p e)) ds h
 
 -- An entry that starts no write and ends no call.
@@ -31,7 +31,7 @@ module _ (x : Entry) (log : List Entry) (clients : ℕ → Client) (h : Numbers 
   numbers_quiet : done (x ∷ log) ≡ done log → begun (x ∷ log) 0 ≡ begun log 0 → Numbers (x ∷ log) clients
   numbers_quiet ed eb =
       record {
-        ended = subst (All (EndedNo (x ∷ log))) (sym ed) (ended_more x log (done log) h.ended);
+        ended = subst (AllByRecursion (EndedNo (x ∷ log))) (sym ed) (ended_more x log (done log) h.ended);
         running = λ q. inr (subst (λ n. WriteNo log n (clients 0).version) (sym eb) (h.running q));
       }
 

@@ -1,8 +1,8 @@
--- All calls of a past stand in one line: ends in `linearizable`.
+-- AllByRecursion calls of a past stand in one line: ends in `linearizable`.
 use Rattle.std.proofs.Common.{◌≡◌, ℕ, suc, ◌<◌, ◌≤◌, false, ◌⊎◌, List, [], ◌∷◌, length, ℤ, sym, refl, ap, ◌∙◌, subst, inl, inr, arith}
 use Rattle.std.proofs.ByRecursion.{all-has, all_has_itself, All-weaker}
 use Rattle.std.proofs.lemmas.Bool.{cases_eq, cases_lt, cond-false, ne_eqb}
-use Rattle.std.specs.List.{ContainsAt as Has, AllByRecursion as All}
+use Rattle.std.specs.List.{ContainsAt as Has, AllByRecursion}
 use Rattle.register.specs.Past.{Entry}
 use Rattle.laws.proofs.Sets.{Distinct}
 use Rattle.laws.proofs.Cards.{Params, Fit}
@@ -21,7 +21,7 @@ abbrev line_of : List Done → List Op
 line_of [] = []
 line_of (d ∷ ds) = insert (op d) (line_of ds)
 
-all_line : (P : Op → Type 0) (ds : List Done) → All (λ d. P (op d)) ds → All P (line_of ds)
+all_line : (P : Op → Type 0) (ds : List Done) → AllByRecursion (λ d. P (op d)) ds → AllByRecursion P (line_of ds)
 all_line P [] h = tt
 all_line P (d ∷ ds) h = all_insert P (op d) (line_of ds) h.0 (all_line P ds h.1)
 
@@ -40,12 +40,12 @@ record LineFine (ds : List Done) : Type 0 where
   respects : Respects (line_of ds)
   once : Distinct (ends_of (line_of ds))
   one_write : OneWrite (line_of ds)
-  members : All (λ d. In (op d) (line_of ds)) ds
+  members : AllByRecursion (λ d. In (op d) (line_of ds)) ds
 
-line_fine : (ds : List Done) → All (λ d. d.begin ≤ d.end) ds → NewestFirst ds → OneWriteEach ds → All (λ y. All (λ x. x.end < y.begin → Ordered x y) ds) ds → LineFine ds
+line_fine : (ds : List Done) → AllByRecursion (λ d. d.begin ≤ d.end) ds → NewestFirst ds → OneWriteEach ds → AllByRecursion (λ y. AllByRecursion (λ x. x.end < y.begin → Ordered x y) ds) ds → LineFine ds
 line_fine [] c h s p = record { sorted = tt; respects = tt; once = tt; one_write = tt; members = tt }
 line_fine (d ∷ ds) c h s p =
-    let r = line_fine ds c.1 h.1 s.1 (All-weaker _ (λ y. All (λ x. x.end < y.begin → Ordered x y) ds) (λ y q. q.1) ds p.1) in
+    let r = line_fine ds c.1 h.1 s.1 (All-weaker _ (λ y. AllByRecursion (λ x. x.end < y.begin → Ordered x y) ds) (λ y q. q.1) ds p.1) in
     record {
       sorted = sorted_insert (op d) (line_of ds) r.sorted;
       respects = respects_insert (op d) (line_of ds) r.sorted r.respects
@@ -56,7 +56,7 @@ line_fine (d ∷ ds) c h s p =
       members = (in_insert (op d) (line_of ds), All-weaker _ _ (λ x q. in_insert_more (op d) (op x) (line_of ds) q) ds r.members);
     }
   where
-    newest : (es : List Done) → All (λ d. d.begin ≤ d.end) es → All (λ x. x.end < d.end) es → All (λ x. Before (op d) (op x) → ⊥) es
+    newest : (es : List Done) → AllByRecursion (λ d. d.begin ≤ d.end) es → AllByRecursion (λ x. x.end < d.end) es → AllByRecursion (λ x. Before (op d) (op x) → ⊥) es
     newest [] a b = tt
     newest (x ∷ xs) a b = ((λ q. absurd (omega (arith, q.1, a.0, b.0))), newest xs a.1 b.1)
 
@@ -74,7 +74,7 @@ wrote? (d ∷ ds) v =
     more (inl w) n = inl (wrote_more d ds v w)
     more (inr w) n = inr (λ x. all-has (λ y. y.client ≡ 0 → y.version ≡ v → ⊥) (d ∷ ds) x.call (n, none) x.has x.writer x.version)
       where
-        none : All (λ y. y.client ≡ 0 → y.version ≡ v → ⊥) ds
+        none : AllByRecursion (λ y. y.client ≡ 0 → y.version ≡ v → ⊥) ds
         none = All-weaker (Has ds) _ (λ y h e q. w (record { call = y; has = h; writer = e; version = q })) ds (all_has_itself ds)
 
 showed? : (ds : List Done) (v : ℕ) → Showed ds v ⊎ (Showed ds v → ⊥)
@@ -89,7 +89,7 @@ showed? (d ∷ ds) v =
     more (inl w) n = inl (record { call = w.call; has = has_there d w.call ds w.has; reader = w.reader; version = w.version })
     more (inr w) n = inr (λ x. all-has (λ y. (y.client ≡ 0 → ⊥) → y.version ≡ v → ⊥) (d ∷ ds) x.call (n, none) x.has x.reader x.version)
       where
-        none : All (λ y. (y.client ≡ 0 → ⊥) → y.version ≡ v → ⊥) ds
+        none : AllByRecursion (λ y. (y.client ≡ 0 → ⊥) → y.version ≡ v → ⊥) ds
         none = All-weaker (Has ds) _ (λ y h e q. w (record { call = y; has = h; reader = e; version = q })) ds (all_has_itself ds)
 
 value_zero : (xs : List ℤ) (f : ℤ) → value_at xs f 0 ≡ f
@@ -103,7 +103,7 @@ module _ (g : Params) (fit : Fit g) (f : ℤ) (log : List Entry) (b : State) (p 
   ended_fine : (d : Done) → Has (done log) d → EndedFine g (values log) f b.replicas (length log) d
   ended_fine d h = all-has (EndedFine g (values log) f b.replicas (length log)) (done log) d u.calls.ended h
 
-  ends : All (λ d. d.begin ≤ d.end) (done log)
+  ends : AllByRecursion (λ d. d.begin ≤ d.end) (done log)
   ends = All-weaker _ (λ d. d.begin ≤ d.end) (λ d q. q.clock.1) (done log) u.calls.ended
 
   whole : LineFine (done log)
@@ -141,7 +141,7 @@ module _ (g : Params) (fit : Fit g) (f : ℤ) (log : List Entry) (b : State) (p 
         ])
       ]
 
-  all_ops : (P : Op → Type 0) → ((d : Done) → Has (done log) d → P (op d)) → All P (line_of (done log))
+  all_ops : (P : Op → Type 0) → ((d : Done) → Has (done log) d → P (op d)) → AllByRecursion P (line_of (done log))
   all_ops P h = all_line P (done log) (All-weaker (Has (done log)) (λ d. P (op d)) h (done log) (all_has_itself (done log)))
 
   has_ended : (d : Done) → Has (done log) d → In (op d) (line_of (done log))
@@ -227,6 +227,6 @@ module _ (g : Params) (fit : Fit g) (f : ℤ) (log : List Entry) (b : State) (p 
         ]
       ]
 
--- All calls of every past stand in one line.
+-- AllByRecursion calls of every past stand in one line.
 pub linearizable : Linearizable
 linearizable g fit f log b p = the_line g fit f log b p

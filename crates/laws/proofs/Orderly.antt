@@ -1,7 +1,7 @@
 -- What every past keeps of the calls that ended and of those under way: ends in the record `Orderly` and, for each kind of entry, a lemma that keeps it.
 use Rattle.std.proofs.Common.{◌≡◌, ℕ, suc, ◌<◌, ◌≤◌, ◌⊎◌, List, [], ◌∷◌, length, ℤ, sym, refl, ◌∙◌, subst, arith}
 use Rattle.std.proofs.ByRecursion.{All-weaker}
-use Rattle.std.specs.List.{AllByRecursion as All}
+use Rattle.std.specs.List.{AllByRecursion}
 use Rattle.laws.proofs.Cards.{Params, Card, Slip, Later}
 use Rattle.laws.proofs.Model.{put, writes, reads, tells, Phase, idle, due, awaiting, Client, sets}
 use Rattle.laws.proofs.History.{Done, value_at, begun, spent, Ordered}
@@ -18,10 +18,10 @@ Below at v d = d.end < at → (d.version ≤ v) × (d.rounds ≡ 2 → d.version
 -- what a call keeps that began at place `at` over the cards `old`, put out n sets of messages since, and knows version v
 abbrev pub OpenFine : Params → ℕ → ℕ → (ℕ → Card) → List Done → ℕ → Phase → Type 0
 OpenFine g at n old ds v idle = Unit {0}
-OpenFine g at n old ds v due = (n ≡ 1) × All (Below at v) ds
-OpenFine g at n old ds v (awaiting writes ss) = (n ≡ 1) × All (λ d. d.end < at → d.version < v) ds × All (λ d. d.client ≡ 0 → d.version < v) ds × (1 ≤ v)
-OpenFine g at n old ds v (awaiting reads ss) = (n ≡ 1) × All (λ d. d.end < at → Established g old d.version × (d.rounds ≡ 2 → Posted g old d.version)) ds
-OpenFine g at n old ds v (awaiting tells ss) = (n ≡ 2) × All (Below at v) ds
+OpenFine g at n old ds v due = (n ≡ 1) × AllByRecursion (Below at v) ds
+OpenFine g at n old ds v (awaiting writes ss) = (n ≡ 1) × AllByRecursion (λ d. d.end < at → d.version < v) ds × AllByRecursion (λ d. d.client ≡ 0 → d.version < v) ds × (1 ≤ v)
+OpenFine g at n old ds v (awaiting reads ss) = (n ≡ 1) × AllByRecursion (λ d. d.end < at → Established g old d.version × (d.rounds ≡ 2 → Posted g old d.version)) ds
+OpenFine g at n old ds v (awaiting tells ss) = (n ≡ 2) × AllByRecursion (Below at v) ds
 
 -- what an ended call keeps
 pub record EndedFine (g : Params) (xs : List ℤ) (f : ℤ) (replicas : ℕ → Card) (now : ℕ) (d : Done) : Type 0 where
@@ -41,19 +41,19 @@ pub record EndedFine (g : Params) (xs : List ℤ) (f : ℤ) (replicas : ℕ → 
 -- no two writes have one version
 abbrev pub OneWriteEach : List Done → Type 0
 OneWriteEach [] = Unit {0}
-OneWriteEach (d ∷ ds) = All (λ x. d.client ≡ 0 → x.client ≡ 0 → x.version < d.version) ds × OneWriteEach ds
+OneWriteEach (d ∷ ds) = AllByRecursion (λ x. d.client ≡ 0 → x.client ≡ 0 → x.version < d.version) ds × OneWriteEach ds
 
 abbrev pub NewestFirst : List Done → Type 0
 NewestFirst [] = Unit {0}
-NewestFirst (d ∷ ds) = All (λ x. x.end < d.end) ds × NewestFirst ds
+NewestFirst (d ∷ ds) = AllByRecursion (λ x. x.end < d.end) ds × NewestFirst ds
 
 -- what a past keeps of its calls: ds ended, and each client's last call began at its place in `begun`
 pub record Orderly (g : Params) (xs : List ℤ) (f : ℤ) (replicas : ℕ → Card) (clients : ℕ → Client) (old : ℕ → ℕ → Card) (now : ℕ) (begun spent : ℕ → ℕ) (ds : List Done) : Type 0 where
-  pub ended : All (EndedFine g xs f replicas now) ds
+  pub ended : AllByRecursion (EndedFine g xs f replicas now) ds
   pub starts : (c : ℕ) → begun c ≤ now
   pub running : (c : ℕ) → OpenFine g (begun c) (spent c) (old c) ds (clients c).version (clients c).phase
   -- a call that ended before another began shows no more
-  pub ordered : All (λ y. All (λ x. x.end < y.begin → Ordered x y) ds) ds
+  pub ordered : AllByRecursion (λ y. AllByRecursion (λ x. x.end < y.begin → Ordered x y) ds) ds
   pub one_write_each : OneWriteEach ds
   pub newest_first : NewestFirst ds
   -- every write but the last has ended, and the last if the writer is idle
@@ -126,7 +126,7 @@ module _ (g : Params) (f : ℤ) where
         }
 
     -- A write or read began.
-    pub orderly_begun : (xs' : List ℤ) (c : ℕ) (x' : Client) (o' : ℕ → Card) → (x'.phase ≡ idle → ⊥) → All (EndedFine g xs' f replicas now) ds
+    pub orderly_begun : (xs' : List ℤ) (c : ℕ) (x' : Client) (o' : ℕ → Card) → (x'.phase ≡ idle → ⊥) → AllByRecursion (EndedFine g xs' f replicas now) ds
         → ((k : ℕ) → 1 ≤ k → k < length xs' → Wrote ds k) → ((0 ≡ c → ⊥) → (clients 0).phase ≡ idle → 1 ≤ length xs' → Wrote ds (length xs'))
         → OpenFine g now 1 o' ds x'.version x'.phase
         → Orderly g xs' f replicas (put clients c x') (put old c o') (suc now) (put begun c now) (put spent c 1) ds
@@ -144,9 +144,9 @@ module _ (g : Params) (f : ℤ) where
 
     -- A call ended.
     pub orderly_ended : (c : ℕ) (x' : Client) (v : ℕ) (z : ℤ) (r : ℕ) → x'.phase ≡ idle → v ≤ length xs → z ≡ value_at xs f v → Established g replicas v → (r ≡ 2 → Posted g replicas v)
-        → r ≡ spent c → (r ≡ 1) ⊎ ((r ≡ 2) × (c ≡ 0 → ⊥)) → (c ≡ 0 → (1 ≤ v) × (v ≡ length xs)) → All (λ d. c ≡ 0 → d.client ≡ 0 → d.version < v) ds
+        → r ≡ spent c → (r ≡ 1) ⊎ ((r ≡ 2) × (c ≡ 0 → ⊥)) → (c ≡ 0 → (1 ≤ v) × (v ≡ length xs)) → AllByRecursion (λ d. c ≡ 0 → d.client ≡ 0 → d.version < v) ds
         → ((j : ℕ) (ss : List Slip) → (clients j).phase ≡ awaiting writes ss → j ≡ 0)
-        → All (λ d. d.end < begun c → (d.version ≤ v) × (c ≡ 0 → d.version < v) × (d.rounds ≡ 2 → r ≡ 2 → d.version < v)) ds
+        → AllByRecursion (λ d. d.end < begun c → (d.version ≤ v) × (c ≡ 0 → d.version < v) × (d.rounds ≡ 2 → r ≡ 2 → d.version < v)) ds
         → Orderly g xs f replicas (put clients c x') old (suc now) begun spent (record { client = c; begin = begun c; end = now; version = v; value = z; rounds = r; sets = spent c } ∷ ds)
     orderly_ended c x' v z r rest le fig est post sets rounds mine alone role below =
         let d : Done = record { client = c; begin = begun c; end = now; version = v; value = z; rounds = r; sets = spent c } in
@@ -158,7 +158,7 @@ module _ (g : Params) (f : ℤ) where
               (λ e. longer d j (clients j).version (clients j).phase (h.running j) refl (λ ss q k. absurd (e (role j ss q ∙ sym k))));
           ordered = (
             ((λ q. absurd (omega (arith, h.starts c))), All-weaker _ _ (λ x p q. let u = p q in record { up = u.0; over = u.1; twice = u.2 }) ds below),
-            All-weaker _ _ (λ y p. ((λ q. absurd (omega (arith, p.0.clock.0, p.0.clock.1))), p.1)) ds (all_two (EndedFine g xs f replicas now) (λ y. All (λ x. x.end < y.begin → Ordered x y) ds) ds h.ended h.ordered),
+            All-weaker _ _ (λ y p. ((λ q. absurd (omega (arith, p.0.clock.0, p.0.clock.1))), p.1)) ds (all_two (EndedFine g xs f replicas now) (λ y. AllByRecursion (λ x. x.end < y.begin → Ordered x y) ds) ds h.ended h.ordered),
           );
           one_write_each = (alone, h.one_write_each);
           newest_first = (All-weaker _ (λ x. x.end < now) (λ x p. p.clock.0) ds h.ended, h.newest_first);

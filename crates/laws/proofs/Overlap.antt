@@ -2,7 +2,7 @@
 use Rattle.std.proofs.Common.{◌≡◌, ℕ, zero, suc, ◌+◌, ◌<◌, ◌≤◌, Bool, true, false, not, ◌||◌, eqb, List, [], ◌∷◌, ◌++◌, length, filter, sym, refl, ap, subst, inl, inr, arith, length-append}
 use Rattle.std.proofs.ByRecursion.{All-append, all_kept_by, All-weaker, kept_by_passes}
 use Rattle.std.proofs.lemmas.Bool.{cases_Bool, cases_eq, cond_both, eqb-false, eqb-true, not-true, or_cases, or_parts}
-use Rattle.std.specs.List.{AllByRecursion as All}
+use Rattle.std.specs.List.{AllByRecursion}
 use Rattle.laws.proofs.Sets.{Lacks, Distinct, Many}
 use Rattle.laws.proofs.Members.{Among, no_longer, all_two}
 
@@ -20,7 +20,7 @@ among_up_to zero i h = absurd (omega arith)
 among_up_to (suc n) i h = elim (cases_eq i n) [ inl e ↦ inl e | inr e ↦ inr (among_up_to n i (omega arith)) ]
 
 -- At most s distinct numbers are below s.
-distinct_below : (s : ℕ) (xs : List ℕ) → Distinct xs → All (λ i. i < s) xs → length xs ≤ s
+distinct_below : (s : ℕ) (xs : List ℕ) → Distinct xs → AllByRecursion (λ i. i < s) xs → length xs ≤ s
 distinct_below s xs d b =
     let k : length xs ≤ length (up_to s) = no_longer xs (up_to s) d (All-weaker (λ i. i < s) (λ i. Among i (up_to s)) (among_up_to s) xs b) in
     omega (arith, length_up_to s)
@@ -29,7 +29,7 @@ abbrev listed : ℕ → List ℕ → Bool
 listed x [] = false
 listed x (y ∷ ys) = eqb x y || listed x ys
 
-listed_all : (P : ℕ → Type 0) (x : ℕ) (ys : List ℕ) → All P ys → listed x ys ≡ true → P x
+listed_all : (P : ℕ → Type 0) (x : ℕ) (ys : List ℕ) → AllByRecursion P ys → listed x ys ≡ true → P x
 listed_all P x [] h e = absurd (mathlib.Core.Bool.false≢true e)
 listed_all P x (y ∷ ys) h e =
     elim (or_cases (eqb x y) (listed x ys) e) [ inl p ↦ subst P (sym (eqb-true x y p)) h.0 | inr p ↦ listed_all P x ys h.1 p ]
@@ -44,7 +44,7 @@ distinct_kept p (x ∷ xs) h =
     cond_both (p x) (x ∷ filter p xs) (filter p xs) Distinct
     (λ e. (all_kept_by p _ xs h.0, distinct_kept p xs h.1)) (λ e. distinct_kept p xs h.1)
 
-distinct_append : (xs ys : List ℕ) → Distinct xs → Distinct ys → All (λ x. Lacks x ys) xs → Distinct (xs ++ ys)
+distinct_append : (xs ys : List ℕ) → Distinct xs → Distinct ys → AllByRecursion (λ x. Lacks x ys) xs → Distinct (xs ++ ys)
 distinct_append [] ys h k a = k
 distinct_append (x ∷ xs) ys h k a = (All-append _ xs ys h.0 a.0, distinct_append xs ys h.1 k a.1)
 
@@ -62,7 +62,7 @@ pub many_both : (s a b m : ℕ) (P Q : ℕ → Type 0) → Many s a P → Many s
 many_both s a b m P Q x y h =
     let inside = filter (λ i. listed i y.places) x.places in
     let outside = filter (λ i. not (listed i y.places)) x.places in
-    let apart : All (λ i. Lacks i y.places) outside =
+    let apart : AllByRecursion (λ i. Lacks i y.places) outside =
     All-weaker _ _ (λ i e. unlisted_lacks i y.places (not-true _ e)) outside (kept_by_passes (λ i. not (listed i y.places)) x.places) in
     let d : Distinct (outside ++ y.places) = distinct_append outside y.places (distinct_kept _ x.places x.distinct) y.distinct apart in
     let few : length (outside ++ y.places) ≤ s =

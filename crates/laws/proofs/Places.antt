@@ -1,7 +1,7 @@
 -- Places: the entries oldest first and the log newest first have the same entry at each place, so operations begin and end at the same places. It ends in begins-log, next-log, next-told, write-at and read_at.
 use Rattle.std.proofs.Common.{◌≡◌, ℕ, zero, suc, ◌<◌, ◌⊎◌, List, [], ◌∷◌, ◌++◌, reverse, length, ℤ, sym, refl, ap, ◌∙◌, subst, inl, inr, arith}
 use mathlib.Core.List.{reverse-cons, reverse-reverse}
-use Rattle.std.specs.List.{AllByRecursion as All}
+use Rattle.std.specs.List.{AllByRecursion}
 use Rattle.std.proofs.lemmas.List.{length_push}
 use Rattle.std.proofs.lemmas.Bool.{cases_order}
 use Rattle.orders.specs.declared.order.Order.{Order}
@@ -29,11 +29,11 @@ pub length_oldest : (log : List Entry) → length (oldest log) ≡ length log
 length_oldest [] = refl
 length_oldest (x ∷ log) = omega (arith, length_push (oldest log) x, length_oldest log)
 
-pub all_oldest : (P : Entry → Type 0) (log : List Entry) → All P (oldest log) → All P log
+pub all_oldest : (P : Entry → Type 0) (log : List Entry) → AllByRecursion P (oldest log) → AllByRecursion P log
 all_oldest P [] h = tt
 all_oldest P (x ∷ log) h = ((all_end (oldest log) h).1, all_oldest P log (all_end (oldest log) h).0)
   where
-    all_end : (es : List Entry) → All P (es ++ x ∷ []) → All P es × P x
+    all_end : (es : List Entry) → AllByRecursion P (es ++ x ∷ []) → AllByRecursion P es × P x
     all_end [] h = (tt, h.0)
     all_end (e ∷ es) h = let r = all_end es h.1 in ((h.0, r.0), r.1)
 
@@ -76,7 +76,7 @@ at_same (x ∷ log) i e e' (inl p) (inr q) = absurd (let r : ⊥ = omega (arith,
 at_same (x ∷ log) i e e' (inr p) (inl q) = absurd (let r : ⊥ = omega (arith, q.0, at_below log i e p) in r)
 at_same (x ∷ log) i e e' (inr p) (inr q) = at_same log i e e' p q
 
-pub all_at_lem : (P : Entry → Type 0) (log : List Entry) (i : ℕ) (e : Entry) → All P log → At log i e → P e
+pub all_at_lem : (P : Entry → Type 0) (log : List Entry) (i : ℕ) (e : Entry) → AllByRecursion P log → At log i e → P e
 all_at_lem P [] i e h k = absurd k
 all_at_lem P (x ∷ log) i e h (inl p) = subst P p.1 h.0
 all_at_lem P (x ∷ log) i e h (inr p) = all_at_lem P log i e h.1 p
@@ -152,7 +152,7 @@ module _ (log : List Entry) where
         untold = λ m l a. h.untold m l (accepted_log (Tell c) m a);
       }
 
-  module _ (none : All NoReadOfWriter log) where
+  module _ (none : AllByRecursion NoReadOfWriter log) where
     -- an accepted start of client 0 is a write, one of another a read
     pub write_at : (i : ℕ) (e : Entry) → At log i e → Starts 0 e → (z : ℤ) × (e.order ≡ Write z)
     write_at i e a s = go e.order refl s.1

@@ -2,7 +2,7 @@
 use Rattle.std.proofs.Common.{◌≡◌, ℕ, zero, suc, ◌+◌, ◌-◌, ◌*◌, ◌<◌, ◌≤◌, true, false, eqb, ◌⊎◌, List, [], ◌∷◌, ◌++◌, length, ℤ, sym, refl, ap, ◌∙◌, subst, inl, inr, arith}
 use Rattle.std.proofs.ByRecursion.{All-append, all-has, All-weaker}
 use Rattle.std.proofs.lemmas.Bool.{cases_lt, cond-true, eq-eqb}
-use Rattle.std.specs.List.{AllByRecursion as All}
+use Rattle.std.specs.List.{AllByRecursion}
 use Rattle.laws.proofs.Sets.{Within, Many}
 use Rattle.laws.proofs.Cards.{Params, Fit, Card, Slip, replicas_of, Ahead, Later}
 use Rattle.laws.proofs.Model.{put, Kind, writes, reads, tells, Msg, Phase, idle, due, awaiting, Client, State, after, sent, carried, Takes, sets, drops, delivers, phased, writing, asking, Learnt, Counting, slip}
@@ -119,7 +119,7 @@ module _ (g : Params) (xs : List ℤ) (f : ℤ) where
   -- Messages put out by a client that awaits replies to them are fine.
   pub sent_are_fine : (replicas : ℕ → Card) (k : Kind) (c r : ℕ) (d : Card) (x : Client) (o : ℕ → Card) (n : ℕ) → n ≤ g.replicas → c ≤ g.readers → CardFine g xs f d → d.marks ≡ g.mark c
       → r ≡ x.round → ((j : Kind) → Awaits x.phase j → (k ≡ j) × (d.version ≡ x.version))
-      → All (λ m. MsgFine g xs f replicas m x o × (m.client ≡ c)) (sent k c r d n)
+      → AllByRecursion (λ m. MsgFine g xs f replicas m x o × (m.client ≡ c)) (sent k c r d n)
   sent_are_fine replicas k c r d x o zero h kc fine own e a = tt
   sent_are_fine replicas k c r d x o (suc n) h kc fine own e a = (
     (
@@ -254,7 +254,7 @@ module _ (g : Params) (xs : List ℤ) (f : ℤ) where
         each = all_replicas (λ i. Q (replicas i)) ss (go ss x.owed x.now);
       }
     where
-      go : (ys : List Slip) → All (λ s. Owed g c v o k s.replica s.card) ys → All (λ s. Later s.card (replicas s.replica)) ys → All (λ s. Q (replicas s.replica)) ys
+      go : (ys : List Slip) → AllByRecursion (λ s. Owed g c v o k s.replica s.card) ys → AllByRecursion (λ s. Later s.card (replicas s.replica)) ys → AllByRecursion (λ s. Q (replicas s.replica)) ys
       go [] p q = tt
       go (y ∷ ys) p q = (lasts y.replica y.card (replicas y.replica) p.0 q.0, go ys p.1 q.1)
 
@@ -311,9 +311,9 @@ module _ (g : Params) (xs : List ℤ) (f : ℤ) where
   -- ---- a client puts out messages
 
   messages_sent : (b : State) (old : ℕ → ℕ → Card) (c : ℕ) (x' : Client) (o' : ℕ → Card) (new : List Msg) → x'.round ≡ suc (b.clients c).round
-      → All (λ m. MsgFine g xs f b.replicas m x' o' × (m.client ≡ c)) new
-      → All (λ m. MsgFine g xs f b.replicas m (b.clients m.client) (old m.client)) b.waiting
-      → All (λ m. MsgFine g xs f b.replicas m (put b.clients c x' m.client) (put old c o' m.client)) (new ++ b.waiting)
+      → AllByRecursion (λ m. MsgFine g xs f b.replicas m x' o' × (m.client ≡ c)) new
+      → AllByRecursion (λ m. MsgFine g xs f b.replicas m (b.clients m.client) (old m.client)) b.waiting
+      → AllByRecursion (λ m. MsgFine g xs f b.replicas m (put b.clients c x' m.client) (put old c o' m.client)) (new ++ b.waiting)
   messages_sent b old c x' o' new e p q =
       All-append _ new b.waiting
       (All-weaker _ _ (λ m h. put_two (λ j x o. MsgFine g xs f b.replicas m x o) b.clients old c x' o' m.client (λ r. h.0) (λ r. absurd (r h.1))) new p)

@@ -1,6 +1,6 @@
 -- What every past keeps of its replicas, messages and clients: ends in the record `Safe`.
 use Rattle.std.proofs.Common.{◌≡◌, ℕ, ◌-◌, ◌<◌, ◌≤◌, true, false, List, length, ℤ}
-use Rattle.std.specs.List.{AllByRecursion as All}
+use Rattle.std.specs.List.{AllByRecursion}
 use Rattle.laws.proofs.Sets.{Distinct, Within}
 use Rattle.laws.proofs.Cards.{Params, Card, Slip, replicas_of, Ahead, Later}
 use Rattle.laws.proofs.Model.{Kind, writes, reads, tells, Msg, Phase, idle, due, awaiting, Client, State}
@@ -41,11 +41,11 @@ pub record MsgFine (g : Params) (xs : List ℤ) (f : ℤ) (replicas : ℕ → Ca
 pub record Gathered (g : Params) (xs : List ℤ) (f : ℤ) (replicas : ℕ → Card) (c v : ℕ) (old : ℕ → Card) (k : Kind) (ss : List Slip) : Type 0 where
   -- they come from distinct replicas
   pub distinct : Distinct (replicas_of ss)
-  pub below : All (λ s. s.replica < g.replicas) ss
+  pub below : AllByRecursion (λ s. s.replica < g.replicas) ss
   -- they say what was written, are not ahead of their replicas, and are what is owed
-  pub fine : All (λ s. CardFine g xs f s.card) ss
-  pub now : All (λ s. Later s.card (replicas s.replica)) ss
-  pub owed : All (λ s. Owed g c v old k s.replica s.card) ss
+  pub fine : AllByRecursion (λ s. CardFine g xs f s.card) ss
+  pub now : AllByRecursion (λ s. Later s.card (replicas s.replica)) ss
+  pub owed : AllByRecursion (λ s. Owed g c v old k s.replica s.card) ss
   -- the replicas have grown since a read began
   pub later : k ≡ reads → (i : ℕ) → Later (old i) (replicas i)
   -- the writer writes, and none but the writer
@@ -69,7 +69,7 @@ pub record ClientFine (g : Params) (xs : List ℤ) (f : ℤ) (replicas : ℕ →
 -- what a state keeps, when xs are the values written and `old c` the replicas' cards as the last call of client c began
 pub record Safe (g : Params) (xs : List ℤ) (f : ℤ) (b : State) (old : ℕ → ℕ → Card) : Type 0 where
   pub replicas : (i : ℕ) → CardFine g xs f (b.replicas i)
-  pub messages : All (λ m. MsgFine g xs f b.replicas m (b.clients m.client) (old m.client)) b.waiting
+  pub messages : AllByRecursion (λ m. MsgFine g xs f b.replicas m (b.clients m.client) (old m.client)) b.waiting
   pub clients : (c : ℕ) → ClientFine g xs f b.replicas c (b.clients c) (old c)
   -- every version below the last write is established, and the last while the writer is idle
   pub past : (k : ℕ) → k < length xs → Established g b.replicas k

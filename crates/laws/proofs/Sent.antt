@@ -1,6 +1,6 @@
 -- What each entry of a past puts into the channel: a whole set of the client's own messages where a write, read or tell is accepted, else none. It ends in regular.
 use Rattle.std.proofs.Common.{◌≡◌, ℕ, zero, suc, ◌+◌, ◌*◌, ◌≤◌, Bool, true, false, cond, ◌&&◌, eqb, leb, List, [], Some, None, count_by, Option, sym, refl, ap, ◌∙◌, subst, inl, inr, arith}
-use Rattle.std.specs.List.{AllByRecursion as All}
+use Rattle.std.specs.List.{AllByRecursion}
 use Rattle.std.proofs.ByRecursion.{All-push}
 use Rattle.std.proofs.lemmas.List.Sums.{sum_by_push}
 use Rattle.std.proofs.lemmas.Bool.{cases_Bool, cond_both, lt-leb, and_left, or_parts, ltb-false, eqb-true, eqb-false, eq-eqb, ne_eqb}
@@ -137,6 +137,6 @@ regular_step k v w e p s =
           omega arith;
     }
 
-pub regular : AllTraced → (k : Checked) (places : ℕ) (es : List Entry) (w : World) → Past (world (opened k) [] places) es w → All (Regular k) es
+pub regular : AllTraced → (k : Checked) (places : ℕ) (es : List Entry) (w : World) → Past (world (opened k) [] places) es w → AllByRecursion (Regular k) es
 regular t k places _ _ start = tt
 regular t k places _ _ (more w u es e p s) = All-push (Regular k) es e (regular t k places es w p) (regular_step k w u e (t k places es w p).matches.register.settings s)

@@ -1,10 +1,10 @@
 -- Sets of numbered replicas as lists without repeats, and masks of marks.
 use Rattle.std.proofs.Common.{◌≡◌, ℕ, ◌+◌, ◌<◌, ◌≤◌, List, [], ◌∷◌, length}
 use lib.Bits.{bit_and}
-use Rattle.std.specs.List.{AllByRecursion as All}
+use Rattle.std.specs.List.{AllByRecursion}
 
 abbrev pub Lacks : ℕ → List ℕ → Type 0
-Lacks x ys = All (λ y. x ≡ y → ⊥) ys
+Lacks x ys = AllByRecursion (λ y. x ≡ y → ⊥) ys
 
 abbrev pub Distinct : List ℕ → Type 0
 Distinct [] = Unit {0}
@@ -18,9 +18,9 @@ Within a b = bit_and a b ≡ a
 pub record Many (s m : ℕ) (P : ℕ → Type 0) : Type 0 where
   pub places : List ℕ
   pub distinct : Distinct places
-  pub below : All (λ i. i < s) places
+  pub below : AllByRecursion (λ i. i < s) places
   pub enough : m ≤ length places
-  pub each : All P places
+  pub each : AllByRecursion P places
 
 abbrev pub Pigeon : Type 0
 Pigeon = (s a b m : ℕ) (p q : ℕ → ℕ) → Many s a (λ i. p i ≡ 0) → Many s b (λ i. q i ≡ 0) → m + s ≤ a + b → Many s m (λ i. (p i ≡ 0) × (q i ≡ 0))

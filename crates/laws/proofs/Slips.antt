@@ -2,13 +2,13 @@
 use Rattle.std.proofs.Common.{◌≡◌, ℕ, suc, ◌≤◌, max, Bool, true, List, [], ◌∷◌, length, filter, sym, refl, ap, subst, inl, inr, arith}
 use Rattle.std.proofs.ByRecursion.{all-has, all_has_itself, all_kept_by, All-weaker, kept_by_passes}
 use Rattle.std.proofs.lemmas.Bool.{cond_both}
-use Rattle.std.specs.List.{ContainsAt as Has, AllByRecursion as All}
+use Rattle.std.specs.List.{ContainsAt as Has, AllByRecursion}
 use Rattle.laws.proofs.Sets.{Lacks, Distinct, Many}
 use Rattle.laws.proofs.Cards.{Card, Slip, replicas_of, highest, Several}
 use Rattle.laws.proofs.Members.{Among, no_longer}
 use Rattle.laws.proofs.Apart.{true_false}
 
-pub all_replicas : (P : ℕ → Type 0) (ss : List Slip) → All (λ s. P s.replica) ss → All P (replicas_of ss)
+pub all_replicas : (P : ℕ → Type 0) (ss : List Slip) → AllByRecursion (λ s. P s.replica) ss → AllByRecursion P (replicas_of ss)
 all_replicas P [] h = tt
 all_replicas P (s ∷ ss) h = (h.0, all_replicas P ss h.1)
 
@@ -17,7 +17,7 @@ length_replicas [] = refl
 length_replicas (s ∷ ss) = ap suc (length_replicas ss)
 
 -- No slip is above the highest.
-pub highest_tops : (ss : List Slip) → All (λ s. s.card.version ≤ highest ss) ss
+pub highest_tops : (ss : List Slip) → AllByRecursion (λ s. s.card.version ≤ highest ss) ss
 highest_tops [] = tt
 highest_tops (s ∷ ss) = (omega arith, All-weaker (λ (x : Slip). x.card.version ≤ highest ss) (λ (x : Slip). x.card.version ≤ max s.card.version (highest ss)) (λ x h. omega arith) ss (highest_tops ss))
 
@@ -26,18 +26,18 @@ several_weaker ss m P Q f x =
     record { chosen = x.chosen; distinct = x.distinct; from = x.from; enough = x.enough; each = All-weaker (λ s. P s.card) (λ s. Q s.card) (λ s. f s.card) x.chosen x.each }
 
 -- What holds of all slips may be added.
-pub several_with : (ss : List Slip) (n : ℕ) (P Q : Card → Type 0) → All (λ s. Q s.card) ss → Several ss n P → Several ss n (λ c. P c × Q c)
+pub several_with : (ss : List Slip) (n : ℕ) (P Q : Card → Type 0) → AllByRecursion (λ s. Q s.card) ss → Several ss n P → Several ss n (λ c. P c × Q c)
 several_with ss n P Q a x =
     record { chosen = x.chosen; distinct = x.distinct; from = x.from; enough = x.enough; each = go x.chosen x.from x.each }
   where
-    go : (xs : List Slip) → All (Has ss) xs → All (λ s. P s.card) xs → All (λ s. P s.card × Q s.card) xs
+    go : (xs : List Slip) → AllByRecursion (Has ss) xs → AllByRecursion (λ s. P s.card) xs → AllByRecursion (λ s. P s.card × Q s.card) xs
     go [] f p = tt
     go (y ∷ ys) f p = ((p.0, all-has (λ s. Q s.card) ss y a f.0), go ys f.1 p.1)
 
 pub some_card : (ss : List Slip) (n : ℕ) (P : Card → Type 0) → 1 ≤ n → Several ss n P → (c : Card) × P c
 some_card ss n P h x = go x.chosen x.each (omega (arith, x.enough))
   where
-    go : (xs : List Slip) → All (λ s. P s.card) xs → 1 ≤ length xs → (c : Card) × P c
+    go : (xs : List Slip) → AllByRecursion (λ s. P s.card) xs → 1 ≤ length xs → (c : Card) × P c
     go [] p few = absurd (omega arith)
     go (y ∷ ys) p few = (y.card, p.0)
 
@@ -52,10 +52,10 @@ record Taken (ss : List Slip) (P : Card → Type 0) (places : List ℕ) : Type 0
   chosen : List Slip
   replicas : replicas_of chosen ≡ places
   size : length chosen ≡ length places
-  from : All (Has ss) chosen
-  each : All (λ s. P s.card) chosen
+  from : AllByRecursion (Has ss) chosen
+  each : AllByRecursion (λ s. P s.card) chosen
 
-take_slips : (ss : List Slip) (P : Card → Type 0) (places : List ℕ) → All (Sent ss P) places → Taken ss P places
+take_slips : (ss : List Slip) (P : Card → Type 0) (places : List ℕ) → AllByRecursion (Sent ss P) places → Taken ss P places
 take_slips ss P [] h = record { chosen = []; replicas = refl; size = refl; from = tt; each = tt }
 take_slips ss P (i ∷ is) h =
     let r = take_slips ss P is h.1 in
@@ -91,7 +91,7 @@ module _ (p : Slip → Bool) (P : Card → Type 0) (right : (s : Slip) → p s �
         each = All-weaker (λ s. p s ≡ true) (λ s. P s.card) right (filter p ss) (kept_by_passes p ss);
       }
 
-  passes_kept : (ss : List Slip) → All (λ s. p s ≡ true → Among s.replica (replicas_of (filter p ss))) ss
+  passes_kept : (ss : List Slip) → AllByRecursion (λ s. p s ≡ true → Among s.replica (replicas_of (filter p ss))) ss
   passes_kept [] = tt
   passes_kept (s ∷ ss) = (
     cond_both (p s) (s ∷ filter p ss) (filter p ss) (λ (ys : List Slip). p s ≡ true → Among s.replica (replicas_of ys)) (λ e q. inl refl) (λ e q. true_false (p s) q e),
@@ -106,6 +106,6 @@ module _ (p : Slip → Bool) (P : Card → Type 0) (right : (s : Slip) → p s �
       no_longer (replicas_of x.chosen) (replicas_of (filter p ss)) x.distinct (all_replicas (λ n. Among n (replicas_of (filter p ss))) x.chosen (go x.chosen x.from x.each)) in
       omega (arith, x.enough, length_replicas x.chosen, length_replicas (filter p ss))
     where
-      go : (ys : List Slip) → All (Has ss) ys → All (λ s. P s.card) ys → All (λ s. Among s.replica (replicas_of (filter p ss))) ys
+      go : (ys : List Slip) → AllByRecursion (Has ss) ys → AllByRecursion (λ s. P s.card) ys → AllByRecursion (λ s. Among s.replica (replicas_of (filter p ss))) ys
       go [] f e = tt
       go (y ∷ ys) f e = (all-has (λ s. p s ≡ true → Among s.replica (replicas_of (filter p ss))) ss y (passes_kept ss) f.0 (whole y e.0), go ys f.1 e.1)

@@ -1,6 +1,6 @@
 -- What an ended call put out between its places, and what its 105 says. It ends in spanned and said.
 use Rattle.std.proofs.Common.{◌≡◌, ℕ, zero, suc, ◌+◌, ◌-◌, ◌*◌, ◌<◌, ◌≤◌, Bool, true, false, cond, eqb, ltb, List, [], ◌∷◌, ◌++◌, length, take, drop, sum_by, count_by, sym, refl, ap, ◌∙◌, subst, inl, inr, arith}
-use Rattle.std.specs.List.{ContainsAt as Has, AllByRecursion as All}
+use Rattle.std.specs.List.{ContainsAt as Has, AllByRecursion}
 use Rattle.std.proofs.ByRecursion.{All-weaker, all-has}
 use Rattle.std.proofs.lemmas.List.{length_push, length-drop, drop-append-le, drop_at, take-append-le, take_all}
 use Rattle.std.proofs.lemmas.List.Sums.{sum_by_push}
@@ -138,7 +138,7 @@ spanned_last k es x d end e t =
 -- ---- every log
 
 module _ (k : Checked) (small : told_size k ≤ k.replicas) where
-  tallied : (log : List Entry) → All (Regular k) log → (c : ℕ) → Tallied k c (oldest log) (begun log c) (spent log c)
+  tallied : (log : List Entry) → AllByRecursion (Regular k) log → (c : ℕ) → Tallied k c (oldest log) (begun log c) (spent log c)
   tallied [] h c = record { low = omega arith; rounds = refl; messages = omega arith }
   tallied (x ∷ log) h c =
       let t = tallied log h.1 c in
@@ -147,7 +147,7 @@ module _ (k : Checked) (small : told_size k ≤ k.replicas) where
         | inr e ↦ simp e (tallied_quiet k c (oldest log) x (begun log c) (spent log c) (h.0.own c ∙ cond-false _ _ _ e) t)
       ]
 
-  pub spanned : (log : List Entry) → All (Regular k) log → All (Spanned k (oldest log)) (done log)
+  pub spanned : (log : List Entry) → AllByRecursion (Regular k) log → AllByRecursion (Spanned k (oldest log)) (done log)
   spanned [] h = tt
   spanned (x ∷ log) h =
       let rest = All-weaker (Spanned k (oldest log)) (Spanned k (oldest log ++ x ∷ [])) (spanned_push k (oldest log) x) (done log) (spanned log h.1) in
@@ -173,7 +173,7 @@ record Recorded (log : List Entry) (d : Done) : Type 0 where
 recorded_more : (x : Entry) (log : List Entry) (d : Done) → Recorded log d → Recorded (x ∷ log) d
 recorded_more x log d h = record { entry = h.entry; at = inr h.at; version = h.version; value = h.value; rounds = h.rounds }
 
-recorded : (log : List Entry) → All (Recorded log) (done log)
+recorded : (log : List Entry) → AllByRecursion (Recorded log) (done log)
 recorded [] = tt
 recorded (x ∷ log) =
     let rest = All-weaker (Recorded log) (Recorded (x ∷ log)) (recorded_more x log) (done log) (recorded log) in

@@ -2,7 +2,7 @@
 use Rattle.std.proofs.Common.{◌≡◌, ℕ, ◌<◌, eqb, ◌⊎◌, List, [], ◌∷◌, length, sym, refl, ap, ◌∙◌, subst, inl, inr, arith}
 use Rattle.std.proofs.ByRecursion.{all-has, All-weaker}
 use Rattle.std.proofs.lemmas.Bool.{cases_Bool, cases_order, eq-eqb}
-use Rattle.std.specs.List.{ContainsAt as Has, AllByRecursion as All}
+use Rattle.std.specs.List.{ContainsAt as Has, AllByRecursion}
 use Rattle.orders.specs.Answers.{listed_as}
 use Rattle.orders.specs.declared.order.Order.TheVariants.{Tell}
 use Rattle.register.specs.Past.{Entry}
@@ -67,7 +67,7 @@ Apart log c = (i i' : ℕ) → BeginsAt log c i → BeginsAt log c i' → i < i'
 pub record Tracked (log : List Entry) (clients : ℕ → Client) : Type 0 where
   pub each : (c : ℕ) → Track log c (begun log c) (clients c).phase
   pub apart : (c : ℕ) → Apart log c
-  pub sound : All (λ d. BeginsAt log d.client d.begin × NextEnd log d.client d.begin d.end) (done log)
+  pub sound : AllByRecursion (λ d. BeginsAt log d.client d.begin × NextEnd log d.client d.begin d.end) (done log)
 
 -- An entry that neither starts nor ends a call of c keeps what is tracked of c.
 module _ (x : Entry) (log : List Entry) (c : ℕ) (ns : Starts c x → ⊥) (ne : Ends c x → ⊥) where
@@ -155,8 +155,8 @@ module _ (x : Entry) (log : List Entry) (c at : ℕ) (en : Ends c x) (o : Open l
         ]
       ]
 
-pub sound_more : (x : Entry) (log : List Entry) (ds : List Done) → All (λ d. BeginsAt log d.client d.begin × NextEnd log d.client d.begin d.end) ds
-    → All (λ d. BeginsAt (x ∷ log) d.client d.begin × NextEnd (x ∷ log) d.client d.begin d.end) ds
+pub sound_more : (x : Entry) (log : List Entry) (ds : List Done) → AllByRecursion (λ d. BeginsAt log d.client d.begin × NextEnd log d.client d.begin d.end) ds
+    → AllByRecursion (λ d. BeginsAt (x ∷ log) d.client d.begin × NextEnd (x ∷ log) d.client d.begin d.end) ds
 sound_more x log ds h = All-weaker _ _ (λ d p. (begins_more x log d.client d.begin p.0, next_more x log d.client d.begin d.end p.1)) ds h
 
 -- ---- the list of the ended calls

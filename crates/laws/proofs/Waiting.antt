@@ -1,22 +1,22 @@
 -- Messages that wait: ends in `sent_waits`, a set of messages put out has one to each replica that it is meant for.
 use Rattle.std.proofs.Common.{◌≡◌, ℕ, zero, suc, ◌<◌, false, ◌⊎◌, List, [], ◌∷◌, ◌++◌, sym, refl, ap, subst, inl, inr, arith}
 use Rattle.std.proofs.lemmas.Bool.{cases_eq}
-use Rattle.std.specs.List.{AllByRecursion as All}
+use Rattle.std.specs.List.{AllByRecursion}
 use Rattle.laws.proofs.Cards.{Card}
 use Rattle.laws.proofs.Model.{Kind, Msg, sent, Takes, here, there, InW}
 
 -- What holds of all messages holds of the one taken and of the rest.
-pub all_takes : (P : Msg → Type 0) {m : Msg} {w v : List Msg} → Takes m w v → All P w → P m × All P v
+pub all_takes : (P : Msg → Type 0) {m : Msg} {w v : List Msg} → Takes m w v → AllByRecursion P w → P m × AllByRecursion P v
 all_takes P here h = h
 all_takes P (there t) h = let r = all_takes P t h.1 in (r.0, (h.0, r.1))
 
-all_waiting : (P : Msg → Type 0) (x : Msg) (w : List Msg) → All P w → InW x w → P x
+all_waiting : (P : Msg → Type 0) (x : Msg) (w : List Msg) → AllByRecursion P w → InW x w → P x
 all_waiting P x [] h i = absurd i
 all_waiting P x (y ∷ w) h (inl e) = subst P (sym e) h.0
 all_waiting P x (y ∷ w) h (inr i) = all_waiting P x w h.1 i
 
 -- What holds of all messages holds of them in any order.
-pub all_same : (P : Msg → Type 0) (v w : List Msg) → ((x : Msg) → InW x w → InW x v) → All P v → All P w
+pub all_same : (P : Msg → Type 0) (v w : List Msg) → ((x : Msg) → InW x w → InW x v) → AllByRecursion P v → AllByRecursion P w
 all_same P v [] f h = tt
 all_same P v (y ∷ w) f h = (all_waiting P y v h (f y (inl refl)), all_same P v w (λ x i. f x (inr i)) h)
 

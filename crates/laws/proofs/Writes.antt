@@ -1,6 +1,6 @@
 -- The accepted writes of a log: the nth has n - 1 before it and the value of version n, and one place. It ends in write-no, write-number, write-order, write-place and last-write.
 use Rattle.std.proofs.Common.{◌≡◌, ℕ, suc, ◌+◌, ◌<◌, ◌≤◌, true, false, cond, ◌&&◌, eqb, ◌⊎◌, List, [], ◌∷◌, length, ℤ, count_by, sym, refl, ap, ◌∙◌, subst, inl, inr, arith}
-use Rattle.std.specs.List.{AllByRecursion as All}
+use Rattle.std.specs.List.{AllByRecursion}
 use Rattle.std.proofs.lemmas.List.{take-append-le, take_at}
 use Rattle.std.proofs.lemmas.List.Sums.{sum_by_push}
 use Rattle.std.proofs.lemmas.Bool.{cases_Bool, cond-true, cond-false, eqb-true, eq-eqb, ne_eqb}
@@ -101,7 +101,7 @@ more_write f x log i n h =
       }
     ]
 
-pub write_order : (f : ℤ) (log : List Entry) → All NoReadOfWriter log → (i n : ℕ) → WriteNo log i n → TheWrite f log i n
+pub write_order : (f : ℤ) (log : List Entry) → AllByRecursion NoReadOfWriter log → (i n : ℕ) → WriteNo log i n → TheWrite f log i n
 write_order f [] none i n h = absurd h
 write_order f (x ∷ log) none i n (inl p) =
     let w = write_at (x ∷ log) none (length log) x (inl (refl, refl)) p.1 in
@@ -118,7 +118,7 @@ write_order f (x ∷ log) none i n (inr p) = more_write f x log i n (write_order
 
 -- ---- one place to a number
 
-pub write_place : (f : ℤ) (log : List Entry) → All NoReadOfWriter log → (i j n : ℕ) → WriteNo log i n → WriteNo log j n → i ≡ j
+pub write_place : (f : ℤ) (log : List Entry) → AllByRecursion NoReadOfWriter log → (i j n : ℕ) → WriteNo log i n → WriteNo log j n → i ≡ j
 write_place f [] none i j n h k = absurd h
 write_place f (x ∷ log) none i j n (inl p) (inl q) = p.0 ∙ sym q.0
 write_place f (x ∷ log) none i j n (inl p) (inr q) = absurd (let r : ⊥ = omega (arith, p.2, (write_order f log none.1 j n q).high) in r)
@@ -155,6 +155,6 @@ last_more x log none last h =
         same (cond-true _ _ _ t ∙ p.0) (ap (λ (s : ℕ → ℕ). s 0) (cond-true _ (begun_by x.order (length log) (begun log)) (begun log) t) ∙ p.1)
 
 -- the last accepted write of all began at the place of the writer's last start
-pub last_write : (log : List Entry) → All NoReadOfWriter log → 1 ≤ length (values log) → WriteNo log (begun log 0) (length (values log))
+pub last_write : (log : List Entry) → AllByRecursion NoReadOfWriter log → 1 ≤ length (values log) → WriteNo log (begun log 0) (length (values log))
 last_write [] none h = absurd (let r : ⊥ = omega arith in r)
 last_write (x ∷ log) none h = last_more x log none.0 (λ l. last_write log none.1 l) h

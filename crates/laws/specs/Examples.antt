@@ -2,7 +2,7 @@
 use Rattle.std.specs.Prelude.{◌≡◌, ℕ, zero, suc, ◌+◌, ◌-◌, ◌≤◌, List, [], ◌∷◌, ◌++◌, map, length, pos}
 use Rattle.std.proofs.Common.{lit≤, lit<}
 use Rattle.std.specs.Int.Signed.{le_z_yes}
-use Rattle.std.specs.List.{AllByRecursion as All}
+use Rattle.std.specs.List.{AllByRecursion}
 use Rattle.std.specs.Option.{option_to_list}
 use Rattle.wire.specs.declared.message.Message.{Message}
 use Rattle.orders.specs.declared.order.Order.{Order}
@@ -289,4 +289,4 @@ pub record Holds (x : Example) : Type 0 where
 
 -- all five do
 abbrev pub Stand : Type 0
-Stand = All Holds examples
+Stand = AllByRecursion Holds examples

@@ -1,6 +1,6 @@
 -- The laws of every past: one line, rounds, and ending. This is the statement to believe.
 use Rattle.std.specs.Prelude.{◌≡◌, ℕ, suc, ◌+◌, ◌-◌, ◌*◌, ◌<◌, ◌≤◌, ◌&&◌, ◌⊎◌, List, [], ◌∷◌, map, take, drop, ℤ, Some, sum_by, count_by, ◌==◌, ◌≢◌, nat_le, nat_lt}
-use Rattle.std.specs.List.{ContainsAt as Has, AllByRecursion as All}
+use Rattle.std.specs.List.{ContainsAt as Has, AllByRecursion}
 use Rattle.orders.specs.declared.order.Order.TheVariants.{Tell, ClientOut}
 use Rattle.orders.specs.Answers.{listed_as}
 use Rattle.register.specs.declared.settings.Checked.{Checked}
@@ -16,11 +16,11 @@ Before x y = (j : ℕ) × (x.end ≡ Some j) × (j < y.begin)
 
 abbrev pub InOrder : List Operation → Type 0
 InOrder [] = Unit {0}
-InOrder (x ∷ xs) = All (λ y. Before y x → ⊥) xs × InOrder xs
+InOrder (x ∷ xs) = AllByRecursion (λ y. Before y x → ⊥) xs × InOrder xs
 
 abbrev pub NoTwice : List ℕ → Type 0
 NoTwice [] = Unit {0}
-NoTwice (i ∷ is) = All (λ j. i ≢ j) is × NoTwice is
+NoTwice (i ∷ is) = AllByRecursion (λ j. i ≢ j) is × NoTwice is
 
 -- each read shows the nearest write before it; before the rest of the line that is version v with value z
 abbrev pub ShowsNearest : ℕ → ℤ → List Operation → Type 0
@@ -33,7 +33,7 @@ ShowsNearest v z (x ∷ xs) =
 pub record OneLine (initial : ℤ) (es : List Entry) : Type 0 where
   pub line : List Operation
   pub once : NoTwice (map (λ o. o.begin) line)
-  pub only : All (Belongs es) line
+  pub only : AllByRecursion (Belongs es) line
   pub all : (o : Operation) → Belongs es o → Has line o
   pub ordered : InOrder line
   pub shows : ShowsNearest 0 initial line

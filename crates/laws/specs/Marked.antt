@@ -1,6 +1,6 @@
 -- The thirteen marked examples, as one table: which settings open, and what first rounds decide.
 use Rattle.std.specs.Prelude.{◌≡◌, ℕ, List, [], ◌∷◌, pos, Some, None, Option}
-use Rattle.std.specs.List.{AllByRecursion as All}
+use Rattle.std.specs.List.{AllByRecursion}
 use Rattle.std.specs.Option.{option_map}
 use Rattle.orders.specs.declared.settings.Settings.{Settings}
 use Rattle.quorum.specs.Deciding.{decided}
@@ -40,4 +40,4 @@ thirteen =
     ∷ []
 
 abbrev pub AllRight : Type 0
-AllRight = All Right thirteen
+AllRight = AllByRecursion Right thirteen

@@ -4,7 +4,8 @@ ghost use Rattle.laws.specs.Examples.{Stand};
 
 // Each example is a past of a register and gives the answers expected of it. The number of the examples.
 pub fn pasts_stand() -> u8
-    ensures { (Stand) × (result ≡ 5) }
+    ensures stand { Stand }
+    ensures count { result ≡ 5 }
 {
     5
 }

@@ -4,7 +4,8 @@ ghost use Rattle.laws.specs.Marked.{AllRight};
 
 // The rules open and decide as each example says. The number of the examples.
 pub fn marked_stand() -> u8
-    ensures { (AllRight) × (result ≡ 13) }
+    ensures right { AllRight }
+    ensures count { result ≡ 13 }
 {
     13
 }

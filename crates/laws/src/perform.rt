@@ -21,10 +21,10 @@ pub fn perform<C: Channel>(
     answers: &mut [Answer],
 ) -> Result<Register, RegisterFault>
     ensures session { MatchResult result
-        (λ x. LawfulSession s (held c.old) (places c.old) orders.now (take (length orders.now) answers.new) (world x (held c.new) (places c.new))
+        (λ x. LawfulSession s (C.held c.old) (C.places c.old) orders.now (take (length orders.now) answers.new) (world x (C.held c.new) (C.places c.new))
         × (drop (length orders.now) answers.new ≡ drop (length orders.now) answers.old)
         × (length orders.now ≤ length answers.old))
-        (λ e. NoSession s (held c.old) (places c.old) (length orders.now) (length answers.old) e × (answers.new ≡ answers.old) × (c.new ≡ c.old)) }
+        (λ e. NoSession s (C.held c.old) (C.places c.old) (length orders.now) (length answers.old) e × (answers.new ≡ answers.old) × (c.new ≡ c.old)) }
     ensures laws { Laws }
 {
     let register = open_and_run(s, c, orders, answers)?;

@@ -7,7 +7,7 @@ use Rattle.std.proofs.lemmas.Bool.Decides.{nat_tests}
 use Rattle.std.proofs.lemmas.Bool.{and_parts, and_from, leb-true, le-leb, eqb-true, eq-eqb}
 use Rattle.std.proofs.lemmas.List.Sums.{length-filter}
 use Rattle.std.proofs.ByRecursion.{kept_by_passes, All-weaker}
-use Rattle.std.specs.List.{AllByRecursion as All}
+use Rattle.std.specs.List.{AllByRecursion}
 use Rattle.quorum.specs.declared.slip.Reading.{Reading}
 use Rattle.quorum.specs.Deciding.{all_have, common_marks, all_at, agree, agreed, some_set}
 use Rattle.quorum.specs.Masks.{covers}
@@ -18,7 +18,7 @@ use Rattle.quorum.proofs.Sets.{chosen, chosen_map, chosen_le_count, number_from_
 pub record Agreement (xs : List Reading) (h need least : ℕ) : Type 0 where
   pub sel : List Bool
   pub many : need ≤ length (chosen sel xs)
-  pub level : All (λ y. y.version ≡ h) (chosen sel xs)
+  pub level : AllByRecursion (λ y. y.version ≡ h) (chosen sel xs)
   pub common : least ≤ common_marks (chosen sel xs)
 
 -- a mask of at least `least` marks, all of which at least `need` of the replies at version h have
@@ -54,7 +54,7 @@ flag_below ys k = grind arith
 common_is_sum : (ys : List Reading) → common_marks ys ≡ sum_to 8 (flag ys)
 common_is_sum ys = omega arith
 
-all_have_from_mask : (m k : ℕ) (ys : List Reading) → digit k m ≡ 1 → All (λ y. bit_and y.marks m ≡ m) ys → all_have ys k ≡ true
+all_have_from_mask : (m k : ℕ) (ys : List Reading) → digit k m ≡ 1 → AllByRecursion (λ y. bit_and y.marks m ≡ m) ys → all_have ys k ≡ true
 all_have_from_mask m k [] e a = refl
 all_have_from_mask m k (y ∷ ys) e a =
     let i : digit k (bit_and y.marks m) ≡ digit k m = ap (digit k) a.0 in
@@ -62,7 +62,7 @@ all_have_from_mask m k (y ∷ ys) e a =
     let r : all_have ys k ≡ true = all_have_from_mask m k ys e a.1 in
     grind (arith, nat_tests)
 
-digit_le_flag : (m k : ℕ) (ys : List Reading) → All (λ y. bit_and y.marks m ≡ m) ys → digit k m ≤ flag ys k
+digit_le_flag : (m k : ℕ) (ys : List Reading) → AllByRecursion (λ y. bit_and y.marks m ≡ m) ys → digit k m ≤ flag ys k
 digit_le_flag m k ys a =
     let f : digit k m ≡ 1 → all_have ys k ≡ true = λ e. all_have_from_mask m k ys e a in grind arith
 
@@ -71,10 +71,10 @@ set_from_mask xs h need least g =
     let m : ℕ = g.mask in
     let p : Reading → Bool = covers h m in
     let e : chosen (map p xs) xs ≡ filter p xs = chosen_map p xs in
-    let passes : All (λ y. p y ≡ true) (filter p xs) = kept_by_passes p xs in
-    let marks : All (λ y. bit_and y.marks m ≡ m) (filter p xs) =
+    let passes : AllByRecursion (λ y. p y ≡ true) (filter p xs) = kept_by_passes p xs in
+    let marks : AllByRecursion (λ y. bit_and y.marks m ≡ m) (filter p xs) =
     All-weaker (λ y. p y ≡ true) (λ y. bit_and y.marks m ≡ m) (λ y t. grind (arith, nat_tests)) (filter p xs) passes in
-    let P : List Reading → Type 0 = λ ys. (need ≤ length ys) × All (λ y. y.version ≡ h) ys × (least ≤ common_marks ys) in
+    let P : List Reading → Type 0 = λ ys. (need ≤ length ys) × AllByRecursion (λ y. y.version ≡ h) ys × (least ≤ common_marks ys) in
     let made : P (filter p xs) = (
       omega (arith, g.many, length-filter p xs),
       All-weaker (λ y. p y ≡ true) (λ y. y.version ≡ h) (λ y t. grind (arith, nat_tests)) (filter p xs) passes,
@@ -86,7 +86,7 @@ set_from_mask xs h need least g =
 
 -- ---- from a set to a mask
 
-each_has : (ys : List Reading) (k : ℕ) → all_have ys k ≡ true → All (λ y. digit k y.marks ≡ 1) ys
+each_has : (ys : List Reading) (k : ℕ) → all_have ys k ≡ true → AllByRecursion (λ y. digit k y.marks ≡ 1) ys
 each_has [] k t = tt
 each_has (y ∷ ys) k t = (grind (arith, nat_tests), each_has ys k (grind (arith, nat_tests)))
 
@@ -94,7 +94,7 @@ rest_have : (y : Reading) (ys : List Reading) (k : ℕ) → all_have (y ∷ ys) 
 rest_have y ys k t = grind (arith, nat_tests)
 
 -- the mask of marks that all the replies have is within the marks of each
-each_has_mask : (m : ℕ) (ys : List Reading) → m < 256 → ((i : ℕ) → i < 8 → digit i m ≡ 1 → all_have ys i ≡ true) → All (λ y. bit_and y.marks m ≡ m) ys
+each_has_mask : (m : ℕ) (ys : List Reading) → m < 256 → ((i : ℕ) → i < 8 → digit i m ≡ 1 → all_have ys i ≡ true) → AllByRecursion (λ y. bit_and y.marks m ≡ m) ys
 each_has_mask m [] small f = tt
 each_has_mask m (y ∷ ys) small f = (
   within_from_digits 8 y.marks m small
@@ -102,7 +102,7 @@ each_has_mask m (y ∷ ys) small f = (
   each_has_mask m ys small (λ i k e. rest_have y ys i (f i k e)),
 )
 
-each_is_covered : (h m : ℕ) (ys : List Reading) → All (λ y. y.version ≡ h) ys → All (λ y. bit_and y.marks m ≡ m) ys → All (λ y. covers h m y ≡ true) ys
+each_is_covered : (h m : ℕ) (ys : List Reading) → AllByRecursion (λ y. y.version ≡ h) ys → AllByRecursion (λ y. bit_and y.marks m ≡ m) ys → AllByRecursion (λ y. covers h m y ≡ true) ys
 each_is_covered h m [] a b = tt
 each_is_covered h m (y ∷ ys) a b =
     let v : y.version ≡ h = a.0 in
@@ -114,7 +114,7 @@ mask_from_set xs h need least g =
     let ys : List Reading = chosen g.sel xs in
     let m : ℕ = mask_of 8 (flag ys) in
     let small : m < 256 = mask_below 8 (flag ys) (flag_below ys) in
-    let sub : All (λ y. bit_and y.marks m ≡ m) ys =
+    let sub : AllByRecursion (λ y. bit_and y.marks m ≡ m) ys =
     each_has_mask m ys small (λ i k e. let f : digit i m ≡ flag ys i = digit_mask 8 (flag ys) (flag_below ys) i k in grind arith) in
     record {
       mask = m;
@@ -125,12 +125,12 @@ mask_from_set xs h need least g =
 
 -- ---- the test of one set
 
-all_at_each : (h : ℕ) (ys : List Reading) → all_at h ys ≡ true → All (λ y. y.version ≡ h) ys
+all_at_each : (h : ℕ) (ys : List Reading) → all_at h ys ≡ true → AllByRecursion (λ y. y.version ≡ h) ys
 all_at_each h [] e = tt
 all_at_each h (y ∷ ys) e =
     let p = and_parts (eqb y.version h) (all_at h ys) e in (eqb-true y.version h p.0, all_at_each h ys p.1)
 
-each_all_at : (h : ℕ) (ys : List Reading) → All (λ y. y.version ≡ h) ys → all_at h ys ≡ true
+each_all_at : (h : ℕ) (ys : List Reading) → AllByRecursion (λ y. y.version ≡ h) ys → all_at h ys ≡ true
 each_all_at h [] a = refl
 each_all_at h (y ∷ ys) a =
     and_from (eqb y.version h) (all_at h ys) (eq-eqb y.version h a.0) (each_all_at h ys a.1)

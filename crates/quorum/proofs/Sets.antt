@@ -2,7 +2,7 @@
 use Rattle.std.proofs.Common.{◌≡◌, ℕ, zero, suc, ◌≤◌, Bool, true, false, cond, eqb, List, [], ◌∷◌, map, length, count_by, filter, refl, ap, ◌∙◌, inl, inr, arith}
 use Rattle.std.proofs.lemmas.Bool.{or_cases, or_parts, or_from, or_left, or_right, both_ways, cases_lt}
 use Rattle.std.proofs.lemmas.List.Sums.{sum_by-cons}
-use Rattle.std.specs.List.{AllByRecursion as All}
+use Rattle.std.specs.List.{AllByRecursion}
 use Rattle.quorum.specs.Tallies.{from, Once}
 use Rattle.quorum.specs.Deciding.{some_up_to, some_set}
 
@@ -62,7 +62,7 @@ some_from_set p (false ∷ bs) (x ∷ xs) e =
 
 -- ---- what a selection keeps
 
-pub chosen_all : {X : Type 0} (P : X → Type 0) (sel : List Bool) (xs : List X) → All P xs → All P (chosen sel xs)
+pub chosen_all : {X : Type 0} (P : X → Type 0) (sel : List Bool) (xs : List X) → AllByRecursion P xs → AllByRecursion P (chosen sel xs)
 chosen_all P [] xs a = tt
 chosen_all P (b ∷ bs) [] a = tt
 chosen_all P (true ∷ bs) (x ∷ xs) a = (a.0, chosen_all P bs xs a.1)
@@ -92,7 +92,7 @@ chosen_map p (x ∷ xs) =
     [ true ↦ ap (λ ys. x ∷ ys) (chosen_map p xs) | false ↦ chosen_map p xs ]
 
 -- a selection of which each passes is at most all that pass
-pub chosen_le_count : {X : Type 0} (p : X → Bool) (sel : List Bool) (xs : List X) → All (λ y. p y ≡ true) (chosen sel xs) → length (chosen sel xs) ≤ count_by p xs
+pub chosen_le_count : {X : Type 0} (p : X → Bool) (sel : List Bool) (xs : List X) → AllByRecursion (λ y. p y ≡ true) (chosen sel xs) → length (chosen sel xs) ≤ count_by p xs
 chosen_le_count p [] xs a = omega arith
 chosen_le_count p (b ∷ bs) [] a = omega arith
 chosen_le_count p (true ∷ bs) (x ∷ xs) a =

@@ -1,6 +1,6 @@
 -- First rounds that mark the borders of the rules, with what each decides.
 use Rattle.std.specs.Prelude.{◌≡◌, ℕ, ◌-◌, cond, List, [], ◌∷◌, pos, Some, None, Option, nat_le}
-use Rattle.std.specs.List.{AllByRecursion as All}
+use Rattle.std.specs.List.{AllByRecursion}
 use Rattle.quorum.specs.declared.slip.Reading.{Reading}
 use Rattle.quorum.specs.declared.decide.Verdict.{Verdict}
 use Rattle.quorum.specs.declared.decide.Verdict.TheVariants.{Highest, Due, Previous}
@@ -45,4 +45,4 @@ marked =
 
 -- with 5 replicas, 1 of them tolerated out, and 2 groups the rules decide each as marked
 abbrev pub Stand : Type 0
-Stand = All (λ e. shown_by (decided 5 1 2 (replies_of e)) ≡ e.shown) marked
+Stand = AllByRecursion (λ e. shown_by (decided 5 1 2 (replies_of e)) ≡ e.shown) marked

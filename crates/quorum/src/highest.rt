@@ -13,7 +13,7 @@ fn higher(a: u32, b: u32) -> u32
 
 // The highest version among the slips, 0 where there is none.
 pub fn highest<T: VersionedSlip>(slips: &[T]) -> u32
-    ensures { result ≡ highest_by version_of slips.now }
+    ensures { result ≡ highest_by T.version_of slips.now }
 {
     let mut top = 0;
     for s in slips {

@@ -1,4 +1,6 @@
 // Replies of one round: slips, counting them once per replica, and deciding a read.
+#![tactic(auto)]
+
 pub mod agree;
 pub mod decide;
 pub mod examples;

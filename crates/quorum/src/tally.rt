@@ -14,7 +14,7 @@ pub struct Tally<'a, T: Slip> {
 
 // Is one of the slips from the replica?
 fn is_from<T: Slip>(slips: &[T], replica: u8) -> bool
-    ensures { result ≡ from sent_by replica slips.now }
+    ensures { result ≡ from T.sent_by replica slips.now }
 {
     for s in slips {
         if s.sender() == replica {

@@ -22,10 +22,10 @@ impl Register {
     }
 
     pub(crate) fn begin_write<C: Channel>(&mut self, c: &mut C, value: i32)
-        requires { all_of self.old ≤ places c.old }
+        requires { all_of self.old ≤ C.places c.old }
         ensures after { self.new ≡ written self.old value }
-        ensures waiting { IsPermutation (held c.new) (put_out self.old (Order.Write value) ++ held c.old) }
-        ensures places { places c.old ≡ places c.new + length (put_out self.old (Order.Write value)) }
+        ensures waiting { IsPermutation (C.held c.new) (put_out self.old (Order.Write value) ++ C.held c.old) }
+        ensures places { C.places c.old ≡ C.places c.new + length (put_out self.old (Order.Write value)) }
     {
         let count = self.settings.replicas;
         let m = self.enter_write(value);
@@ -45,11 +45,11 @@ impl Register {
     }
 
     pub(crate) fn begin_read<C: Channel>(&mut self, c: &mut C, reader: u32)
-        requires reader_bound { reader < 65 }
-        requires self_bound { all_of self.old ≤ places c.old }
+        requires reader { reader < 65 }
+        requires room { all_of self.old ≤ C.places c.old }
         ensures after { self.new ≡ asked self.old reader }
-        ensures waiting { IsPermutation (held c.new) (put_out self.old (Order.Read reader) ++ held c.old) }
-        ensures places { places c.old ≡ places c.new + length (put_out self.old (Order.Read reader)) }
+        ensures waiting { IsPermutation (C.held c.new) (put_out self.old (Order.Read reader) ++ C.held c.old) }
+        ensures places { C.places c.old ≡ C.places c.new + length (put_out self.old (Order.Read reader)) }
     {
         let count = self.settings.replicas;
         let m = self.enter_read(reader);
@@ -69,11 +69,11 @@ impl Register {
     }
 
     pub(crate) fn begin_tell<C: Channel>(&mut self, c: &mut C, reader: u32)
-        requires reader_bound { reader < 65 }
-        requires self_bound { told_of self.old ≤ places c.old }
+        requires reader { reader < 65 }
+        requires room { told_of self.old ≤ C.places c.old }
         ensures after { self.new ≡ told self.old reader }
-        ensures waiting { IsPermutation (held c.new) (put_out self.old (Order.Tell reader) ++ held c.old) }
-        ensures places { places c.old ≡ places c.new + length (put_out self.old (Order.Tell reader)) }
+        ensures waiting { IsPermutation (C.held c.new) (put_out self.old (Order.Tell reader) ++ C.held c.old) }
+        ensures places { C.places c.old ≡ C.places c.new + length (put_out self.old (Order.Tell reader)) }
     {
         let count = 3 * self.settings.tolerated + 1;
         let m = self.enter_tell(reader);

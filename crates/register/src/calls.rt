@@ -11,7 +11,7 @@ use wire::channel::Channel;
 impl Register {
     // The writer begins to write.
     pub fn write<C: Channel>(&mut self, c: &mut C, value: i32) -> Answer
-        ensures { Answered (world self.old (held c.old) (places c.old)) (Order.Write value) result (world self.new (held c.new) (places c.new)) }
+        ensures { Answered (world self.old (C.held c.old) (C.places c.old)) (Order.Write value) result (world self.new (C.held c.new) (C.places c.new)) }
     {
         let room = has_room(c, self.settings.replicas);
         if let Some(refusal) = self.write_refusal(room, value) {
@@ -23,7 +23,7 @@ impl Register {
 
     // A reader begins to read.
     pub fn read<C: Channel>(&mut self, c: &mut C, reader: u32) -> Answer
-        ensures { Answered (world self.old (held c.old) (places c.old)) (Order.Read reader) result (world self.new (held c.new) (places c.new)) }
+        ensures { Answered (world self.old (C.held c.old) (C.places c.old)) (Order.Read reader) result (world self.new (C.held c.new) (C.places c.new)) }
     {
         let room = has_room(c, self.settings.replicas);
         if let Some(refusal) = self.read_refusal(room, reader) {
@@ -35,7 +35,7 @@ impl Register {
 
     // A reader whose read is due begins its second round.
     pub fn tell<C: Channel>(&mut self, c: &mut C, reader: u32) -> Answer
-        ensures { Answered (world self.old (held c.old) (places c.old)) (Order.Tell reader) result (world self.new (held c.new) (places c.new)) }
+        ensures { Answered (world self.old (C.held c.old) (C.places c.old)) (Order.Tell reader) result (world self.new (C.held c.new) (C.places c.new)) }
     {
         let room = has_room(c, 3 * self.settings.tolerated + 1);
         if let Some(refusal) = self.tell_refusal(room, reader) {
@@ -47,7 +47,7 @@ impl Register {
 
     // A replica is withdrawn.
     pub fn replica_out<C: Channel>(&mut self, c: &mut C, replica: u32) -> Answer
-        ensures { Answered (world self.old (held c.old) (places c.old)) (Order.ReplicaOut replica) result (world self.new (held c.new) (places c.new)) }
+        ensures { Answered (world self.old (C.held c.old) (C.places c.old)) (Order.ReplicaOut replica) result (world self.new (C.held c.new) (C.places c.new)) }
     {
         if let Some(refusal) = self.replica_out_refusal(replica) {
             return Answer::Refused(refusal, replica);
@@ -59,7 +59,7 @@ impl Register {
 
     // A client is withdrawn.
     pub fn client_out<C: Channel>(&mut self, c: &mut C, client: u32) -> Answer
-        ensures { Answered (world self.old (held c.old) (places c.old)) (Order.ClientOut client) result (world self.new (held c.new) (places c.new)) }
+        ensures { Answered (world self.old (C.held c.old) (C.places c.old)) (Order.ClientOut client) result (world self.new (C.held c.new) (C.places c.new)) }
     {
         if let Some(refusal) = self.client_out_refusal(client) {
             return Answer::Refused(refusal, client);

@@ -12,9 +12,9 @@ use wire::message::Message;
 
 // Puts a replica's reply into the channel, where a place was just freed.
 fn put_reply<C: Channel>(c: &mut C, reply: Option<Message>)
-    requires { 1 ≤ places c.old }
-    ensures waiting { IsPermutation (held c.new) (option_to_list reply ++ held c.old) }
-    ensures places { places c.old ≡ places c.new + length (option_to_list reply) }
+    requires { 1 ≤ C.places c.old }
+    ensures waiting { IsPermutation (C.held c.new) (option_to_list reply ++ C.held c.old) }
+    ensures places { C.places c.old ≡ C.places c.new + length (option_to_list reply) }
 {
     if let Some(m) = reply {
         match c.put(m) {
@@ -27,7 +27,7 @@ fn put_reply<C: Channel>(c: &mut C, reply: Option<Message>)
 impl Register {
     // For some message that waited, of the channel's choice, this is what the rules say of it.
     pub fn carry<C: Channel>(&mut self, c: &mut C) -> Answer
-        ensures { Answered (world self.old (held c.old) (places c.old)) Order.Carry result (world self.new (held c.new) (places c.new)) }
+        ensures { Answered (world self.old (C.held c.old) (C.places c.old)) Order.Carry result (world self.new (C.held c.new) (C.places c.new)) }
     {
         let Some(m) = c.take() else {
             return Answer::Refused(Refusal::NothingWaits, 0);

@@ -30,7 +30,7 @@ pub(crate) fn value_in_range(value: i32) -> bool
 
 // Is the channel empty, with a place for each replica?
 fn check_channel<C: Channel>(c: &C, replicas: u32) -> Result<(), ChannelFault>
-    ensures { MatchResult result (λ _. channel_fault (length (held c.now)) (places c.now) replicas ≡ None) (λ e. channel_fault (length (held c.now)) (places c.now) replicas ≡ Some e) }
+    ensures { MatchResult result (λ _. channel_fault (length (C.held c.now)) (C.places c.now) replicas ≡ None) (λ e. channel_fault (length (C.held c.now)) (C.places c.now) replicas ≡ Some e) }
 {
     if c.waiting() > 0 {
         return Err(ChannelFault::NotEmpty);
@@ -43,7 +43,7 @@ fn check_channel<C: Channel>(c: &C, replicas: u32) -> Result<(), ChannelFault>
 
 // Settings that passed, or the first fault.
 pub(crate) fn check<C: Channel>(s: Settings, c: &C) -> Result<Checked, RegisterFault>
-    ensures { MatchResult result (λ k. (opening_fault s (length (held c.now)) (places c.now) ≡ None) × (given k ≡ s)) (λ e. opening_fault s (length (held c.now)) (places c.now) ≡ Some e) }
+    ensures { MatchResult result (λ k. (opening_fault s (length (C.held c.now)) (C.places c.now) ≡ None) × (given k ≡ s)) (λ e. opening_fault s (length (C.held c.now)) (C.places c.now) ≡ Some e) }
 {
     if !in_ranges(&s) {
         return Err(RegisterFault::Range);

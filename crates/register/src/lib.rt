@@ -1,4 +1,6 @@
 // The replicated register: opening it, its six calls, and lists of them.
+#![tactic(auto)]
+
 pub(crate) mod begin;
 pub mod calls;
 pub mod carry;

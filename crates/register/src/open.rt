@@ -46,7 +46,7 @@ impl Register {
 
     // Opens a register over a channel; a fault leaves nothing behind.
     pub fn open<C: Channel>(s: Settings, c: &C) -> Result<Register, RegisterFault>
-        ensures { MatchResult result (λ x. Opens s (held c.now) (places c.now) x) (λ e. opening_fault s (length (held c.now)) (places c.now) ≡ Some e) }
+        ensures { MatchResult result (λ x. Opens s (C.held c.now) (C.places c.now) x) (λ e. opening_fault s (length (C.held c.now)) (C.places c.now) ≡ Some e) }
     {
         let settings = check(s, c)?;
         Ok(Register::make(settings))

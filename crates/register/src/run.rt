@@ -11,7 +11,7 @@ use wire::channel::Channel;
 impl Register {
     // One order.
     pub fn order<C: Channel>(&mut self, c: &mut C, o: Order) -> Answer
-        ensures { Answered (world self.old (held c.old) (places c.old)) o result (world self.new (held c.new) (places c.new)) }
+        ensures { Answered (world self.old (C.held c.old) (C.places c.old)) o result (world self.new (C.held c.new) (C.places c.new)) }
     {
         match o {
             Order::Write(value) => self.write(c, value),
@@ -31,7 +31,7 @@ impl Register {
         answers: &mut [Answer],
     ) -> Result<(), RegisterFault>
         ensures { MatchResult result
-            (λ _. Ran (world self.old (held c.old) (places c.old)) orders.now (take (length orders.now) answers.new) (world self.new (held c.new) (places c.new))
+            (λ _. Ran (world self.old (C.held c.old) (C.places c.old)) orders.now (take (length orders.now) answers.new) (world self.new (C.held c.new) (C.places c.new))
             × (drop (length orders.now) answers.new ≡ drop (length orders.now) answers.old)
             × (length orders.now ≤ length answers.old))
             (λ e. (e ≡ RegisterFault.Answers) × (length answers.old < length orders.now) × (answers.new ≡ answers.old) × (c.new ≡ c.old) × (self.new ≡ self.old)) }

@@ -8,7 +8,7 @@ use wire::message::Message;
 
 // Has the channel so many free places?
 pub(crate) fn has_room<C: Channel>(c: &C, count: u8) -> bool
-    ensures { result ≡ nat_le count (places c.now) }
+    ensures { result ≡ nat_le count (C.places c.now) }
 {
     c.free() >= u32::from(count)
 }
@@ -22,9 +22,9 @@ fn to_replica(m: Message, b: u8) -> Message
 
 // Puts in the message once for each of the replicas 0 to count - 1.
 pub(crate) fn send<C: Channel>(c: &mut C, m: Message, count: u8)
-    requires { count ≤ places c.old }
-    ensures waiting { IsPermutation (held c.new) (copies m count ++ held c.old) }
-    ensures places { places c.old ≡ places c.new + count }
+    requires { count ≤ C.places c.old }
+    ensures waiting { IsPermutation (C.held c.new) (copies m count ++ C.held c.old) }
+    ensures places { C.places c.old ≡ C.places c.new + count }
 {
     for b in 0..count {
         match c.put(to_replica(m, b)) {

@@ -18,10 +18,10 @@ pub fn open_and_run<C: Channel>(
     answers: &mut [Answer],
 ) -> Result<Register, RegisterFault>
     ensures { MatchResult result
-        (λ x. Session s (held c.old) (places c.old) orders.now (take (length orders.now) answers.new) (world x (held c.new) (places c.new))
+        (λ x. Session s (C.held c.old) (C.places c.old) orders.now (take (length orders.now) answers.new) (world x (C.held c.new) (C.places c.new))
         × (drop (length orders.now) answers.new ≡ drop (length orders.now) answers.old)
         × (length orders.now ≤ length answers.old))
-        (λ e. NoSession s (held c.old) (places c.old) (length orders.now) (length answers.old) e × (answers.new ≡ answers.old) × (c.new ≡ c.old)) }
+        (λ e. NoSession s (C.held c.old) (C.places c.old) (length orders.now) (length answers.old) e × (answers.new ≡ answers.old) × (c.new ≡ c.old)) }
 {
     let mut register = Register::open(s, c)?;
     register.run(c, orders, answers)?;

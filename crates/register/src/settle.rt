@@ -10,10 +10,10 @@ use wire::channel::Channel;
 impl Register {
     // How many carries it did; later answers keep what they held.
     pub fn settle<C: Channel>(&mut self, c: &mut C, answers: &mut [Answer]) -> usize
-        ensures carries { Ran (world self.old (held c.old) (places c.old)) (replicate result Order.Carry) (take result answers.new) (world self.new (held c.new) (places c.new)) }
+        ensures carries { Ran (world self.old (C.held c.old) (C.places c.old)) (replicate result Order.Carry) (take result answers.new) (world self.new (C.held c.new) (C.places c.new)) }
         ensures later { drop result answers.new ≡ drop result answers.old }
         ensures within { result ≤ length answers.old }
-        ensures settled { result < length answers.old → held c.new ≡ [] }
+        ensures settled { result < length answers.old → C.held c.new ≡ [] }
     {
         let mut n: usize = 0;
         while n < answers.len() && c.waiting() > 0 {

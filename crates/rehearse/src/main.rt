@@ -1,4 +1,6 @@
 // The program rehearse: the drill over a channel that its arguments name.
+#![tactic(auto)]
+
 mod words;
 
 use orders::answer::Answer;

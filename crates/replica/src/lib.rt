@@ -1,4 +1,6 @@
 // One replica: what it keeps, and what a message does to it.
+#![tactic(auto)]
+
 pub mod record;
 pub mod row;
 pub mod step;

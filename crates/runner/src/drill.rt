@@ -20,7 +20,7 @@ fn play<'a, C: Channel>(
     at: &mut Position,
 ) -> Result<usize, DrillFault<'a>>
     requires { reading.count ≤ length orders.now }
-    ensures { Plays reading.settings reading.count (desk (held c.old) (places c.old) orders.now answers.old out.old at.old.len) (desk (held c.new) (places c.new) orders.now answers.new out.new at.new.len) result }
+    ensures { Plays reading.settings reading.count (desk (C.held c.old) (C.places c.old) orders.now answers.old out.old at.old.len) (desk (C.held c.new) (C.places c.new) orders.now answers.new out.new at.new.len) result }
 {
     let n = reading.count;
     let _register = perform(reading.settings, c, &orders[0..n], answers)?;
@@ -37,7 +37,7 @@ pub fn drill<'a, C: Channel>(
     out: &mut [u8],
     at: &mut Position,
 ) -> Result<usize, DrillFault<'a>>
-    ensures { Drills sheet.now (desk (held c.old) (places c.old) orders.old answers.old out.old at.old.len) (desk (held c.new) (places c.new) orders.new answers.new out.new at.new.len) result }
+    ensures { Drills sheet.now (desk (C.held c.old) (C.places c.old) orders.old answers.old out.old at.old.len) (desk (C.held c.new) (C.places c.new) orders.new answers.new out.new at.new.len) result }
 {
     let reading = read(sheet, orders)?;
     play(reading, c, orders, answers, out, at)

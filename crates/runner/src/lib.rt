@@ -1,4 +1,6 @@
 // A whole drill: reads a sheet, opens a register over any channel, runs the orders and writes the listing.
+#![tactic(auto)]
+
 pub mod choice;
 pub mod drill;
 pub mod fault;

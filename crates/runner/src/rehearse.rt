@@ -20,7 +20,7 @@ pub fn rehearse<'a, C: Channel + Drop>(
     out: &mut [u8],
     at: &mut Position,
 ) -> Result<usize, DrillFault<'a>>
-    ensures { Rehearsed sheet.now (held c) (places c) (memory orders.old answers.old out.old at.old.len) (memory orders.new answers.new out.new at.new.len) result }
+    ensures { Rehearsed sheet.now (C.held c) (C.places c) (memory orders.old answers.old out.old at.old.len) (memory orders.new answers.new out.new at.new.len) result }
 {
     drill(sheet, &mut c, orders, answers, out, at)
 }
@@ -35,7 +35,7 @@ pub fn rehearse_delayed<'a, C: Channel + Drop>(
     out: &mut [u8],
     at: &mut Position,
 ) -> Result<usize, DrillFault<'a>>
-    ensures { Rehearsed sheet.now (held c) (places c + 64) (memory orders.old answers.old out.old at.old.len) (memory orders.new answers.new out.new at.new.len) result }
+    ensures { Rehearsed sheet.now (C.held c) (C.places c + 64) (memory orders.old answers.old out.old at.old.len) (memory orders.new answers.new out.new at.new.len) result }
 {
     rehearse(Delay::new(c, replica), sheet, orders, answers, out, at)
 }
@@ -51,7 +51,7 @@ pub fn rehearse_twice_delayed<'a, C: Channel + Drop>(
     out: &mut [u8],
     at: &mut Position,
 ) -> Result<usize, DrillFault<'a>>
-    ensures { Rehearsed sheet.now (held c) ((places c + 64) + 64) (memory orders.old answers.old out.old at.old.len) (memory orders.new answers.new out.new at.new.len) result }
+    ensures { Rehearsed sheet.now (C.held c) ((C.places c + 64) + 64) (memory orders.old answers.old out.old at.old.len) (memory orders.new answers.new out.new at.new.len) result }
 {
     rehearse_delayed(Delay::new(c, lower), upper, sheet, orders, answers, out, at)
 }

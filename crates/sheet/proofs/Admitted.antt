@@ -1,7 +1,7 @@
 -- The words of a writable sheet are admitted at their places; it ends in `head_admitted` and `order_admitted`.
 use Rattle.std.proofs.Common.{◌≡◌, ℕ, suc, ◌<◌, ◌≤◌, Bool, true, false, cond, not, ◌&&◌, eqb, ltb, List, [], ◌∷◌, length, get_or, drop, ℤ, pos, negsuc, decimal, refl, ap, ◌∙◌, inl, inr, arith, lit<}
 use Rattle.std.specs.Fmt.{signed_decimal}
-use Rattle.std.specs.List.{AllByRecursion as All}
+use Rattle.std.specs.List.{AllByRecursion}
 use Rattle.std.proofs.lemmas.Fmt.{decimal_nonempty, decimal_digit, first_decimal, digits_decimal, digits_value-decimal}
 use Rattle.std.proofs.lemmas.Bool.{and_parts, and_left, and_right, cases_eq, cond-true, cond-false, le-ltb, ne_eqb, or_left, or_right, or_from, false≢true}
 use Rattle.std.proofs.lemmas.Bool.Decides.{nat_tests}
@@ -97,7 +97,7 @@ value_admitted (negsuc n) separator h s =
     }
 
 -- a word that is known
-pub head_admitted : (s : Settings) (n : ℕ) → SmallSettings s → n ≤ orders_max → All Admitted (head_words s n)
+pub head_admitted : (s : Settings) (n : ℕ) → SmallSettings s → n ≤ orders_max → AllByRecursion Admitted (head_words s n)
 head_admitted s n h few = (
   record { good = record { plain = (refl, (refl, (refl, (refl, (refl, (refl, (refl, (refl, tt)))))))); stops = refl }; form = refl; size = refl },
   (
@@ -135,7 +135,7 @@ kind_admitted Carry separator h s = record { good = record { plain = (refl, tt);
 kind_admitted (ReplicaOut n) separator h s = record { good = record { plain = (refl, tt); stops = s }; form = refl; size = refl }
 kind_admitted (ClientOut n) separator h s = record { good = record { plain = (refl, tt); stops = s }; form = refl; size = refl }
 
-pub order_admitted : (o : Order) → FineOrder o → All Admitted (order_words o)
+pub order_admitted : (o : Order) → FineOrder o → AllByRecursion Admitted (order_words o)
 order_admitted (Write z) h = (kind_admitted (Write z) 32 h refl, (value_admitted z 10 h.small refl, tt))
 order_admitted (Read n) h = (kind_admitted (Read n) 32 h refl, (number_admitted number_max n 10 h.small (omega arith) refl, tt))
 order_admitted (Tell n) h = (kind_admitted (Tell n) 32 h refl, (number_admitted number_max n 10 h.small (omega arith) refl, tt))

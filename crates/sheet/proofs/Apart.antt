@@ -2,7 +2,7 @@
 use Rattle.std.proofs.Common.{◌≡◌, ℕ, ◌^◌, ◌<◌, ◌≤◌, Bool, true, false, cond, List, [], ◌∷◌, ◌++◌, length, get_or, ℤ, pos, negsuc, nat_abs, codes, decimal, sym, refl, ap, ◌∙◌, subst, inl, inr, append_assoc, arith}
 use lib.Signed.{mag}
 use Rattle.std.specs.Fmt.{signed_decimal}
-use Rattle.std.specs.List.{AllByRecursion as All}
+use Rattle.std.specs.List.{AllByRecursion}
 use Rattle.std.specs.Str.{bytes_eq}
 use Rattle.std.proofs.lemmas.Fmt.{decimal_injective, signed_decimal_injective}
 use Rattle.std.proofs.ByRecursion.{All-weaker}
@@ -19,7 +19,7 @@ use Rattle.sheet.proofs.Admitted.{Admitted, head_admitted, order_admitted}
 use Rattle.sheet.proofs.Refuted.{Matches}
 use Rattle.sheet.proofs.Walks.{bytes_append}
 
-pub all_good : (ps : List Placed) → All Admitted ps → All Good ps
+pub all_good : (ps : List Placed) → AllByRecursion Admitted ps → AllByRecursion Good ps
 all_good ps h = All-weaker Admitted Good (λ p a. a.good) ps h
 
 small_mag : (z : ℤ) → SmallValue z → mag z < 2 ^ 63
@@ -78,7 +78,7 @@ Ends p = p.separator ≡ 10
 record Line (o : Order) : Type 0 where
   parts : order_words o ≡ placed kind (kind_of o) (kind_end (kind_of o)) ∷ behind_kind o
   dues : dues_in (behind_kind o) ≡ shape (kind_of o)
-  ends : All Ends (behind_kind o)
+  ends : AllByRecursion Ends (behind_kind o)
   words : words_in (behind_kind o) ≡ cond (bytes_eq (kind_of o) (codes "c")) [] (signed_decimal (about o) ∷ [])
   again : o ≡ built (kind_of o) (about o)
 
@@ -120,7 +120,7 @@ same_order o p g h k w =
           (line_of o).again ∙ ap (λ z. built (kind_of o) z) (same_behind c (about o) (about p) (small_about o g) (small_about p h) e f) ∙ sym back
     ]
 
-dues_match : (ps qs : List Placed) → dues_in ps ≡ dues_in qs → All Ends ps → All Ends qs → Matches ps qs
+dues_match : (ps qs : List Placed) → dues_in ps ≡ dues_in qs → AllByRecursion Ends ps → AllByRecursion Ends qs → Matches ps qs
 dues_match [] [] e g h = tt
 dues_match [] (q ∷ qs) e g h = absurd (let k : ◌≡◌ {A = ℕ} 0 1 = cc in omega arith)
 dues_match (p ∷ ps) [] e g h = absurd (let k : ◌≡◌ {A = ℕ} 0 1 = cc in omega arith)
@@ -140,8 +140,8 @@ length_dues : (ps : List Placed) → length (dues_in ps) ≡ length ps
 length_dues [] = refl
 length_dues (p ∷ ps) = omega (arith, length_dues ps)
 
-parts_admitted : (o : Order) → FineOrder o → All Admitted (placed kind (kind_of o) (kind_end (kind_of o)) ∷ behind_kind o)
-parts_admitted o h = let P : List Placed → Type 0 = λ ps. All Admitted ps in subst P (order_parts o) (order_admitted o h)
+parts_admitted : (o : Order) → FineOrder o → AllByRecursion Admitted (placed kind (kind_of o) (kind_end (kind_of o)) ∷ behind_kind o)
+parts_admitted o h = let P : List Placed → Type 0 = λ ps. AllByRecursion Admitted ps in subst P (order_parts o) (order_admitted o h)
 
 pub order_peel : (o p : Order) (x y : List ℕ) → FineOrder o → FineOrder p → bytes_of (order_words o) ++ x ≡ bytes_of (order_words p) ++ y → (o ≡ p) × (x ≡ y)
 order_peel o p x y g h e =
@@ -157,7 +157,7 @@ order_peel o p x y g h e =
 pub line_first : (o : Order) (os : List Order) (x : List ℕ) → bytes_of (lines_of (o ∷ os)) ++ x ≡ bytes_of (order_words o) ++ (bytes_of (lines_of os) ++ x)
 line_first o os x = ap (λ t. t ++ x) (bytes_append (order_words o) (lines_of os)) ∙ append_assoc (bytes_of (order_words o)) (bytes_of (lines_of os)) x
 
-pub orders_peel : (os ps : List Order) (x y : List ℕ) → All FineOrder os → All FineOrder ps → length os ≡ length ps → bytes_of (lines_of os) ++ x ≡ bytes_of (lines_of ps) ++ y → (os ≡ ps) × (x ≡ y)
+pub orders_peel : (os ps : List Order) (x y : List ℕ) → AllByRecursion FineOrder os → AllByRecursion FineOrder ps → length os ≡ length ps → bytes_of (lines_of os) ++ x ≡ bytes_of (lines_of ps) ++ y → (os ≡ ps) × (x ≡ y)
 orders_peel [] [] x y g h l e = (refl, e)
 orders_peel [] (p ∷ ps) x y g h l e = absurd (omega arith)
 orders_peel (o ∷ os) [] x y g h l e = absurd (omega arith)

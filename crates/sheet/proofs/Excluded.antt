@@ -1,6 +1,6 @@
 -- Faults that a sheet whose head is whole cannot have; used for sheets of the form and for other faults.
 use Rattle.std.proofs.Common.{◌≡◌, ℕ, ◌+◌, ◌<◌, ◌≤◌, List, [], ◌∷◌, ◌++◌, length, decimal, sym, refl, ap, ◌∙◌, append_assoc, arith}
-use Rattle.std.specs.List.{AllByRecursion as All}
+use Rattle.std.specs.List.{AllByRecursion}
 use Rattle.std.proofs.lemmas.Fmt.{decimal_injective}
 use Rattle.orders.specs.declared.order.Order.{Order}
 use Rattle.orders.specs.declared.settings.Settings.{Settings}
@@ -32,14 +32,14 @@ head_refuted sheet places f filled t n x h small few e =
 abbrev pub front : Settings → List Placed
 front s = title_words ++ (settings_words s ++ orders_words)
 
-all_front : (ps qs : List Placed) → All Admitted (ps ++ qs) → All Admitted ps
+all_front : (ps qs : List Placed) → AllByRecursion Admitted (ps ++ qs) → AllByRecursion Admitted ps
 all_front [] qs h = tt
 all_front (p ∷ ps) qs h = (h.0, all_front ps qs h.1)
 
-pub front_admitted : (s : Settings) → SmallSettings s → All Admitted (front s)
+pub front_admitted : (s : Settings) → SmallSettings s → AllByRecursion Admitted (front s)
 front_admitted s h = all_front (front s) (number_words orders_max 10 0) (head_admitted s 0 h (omega arith))
 
-pub front_good : (s : Settings) → SmallSettings s → All Good (front s)
+pub front_good : (s : Settings) → SmallSettings s → AllByRecursion Good (front s)
 front_good s h = all_good (front s) (front_admitted s h)
 
 pub fronts_match : (s t : Settings) → Matches (front s) (front t)
@@ -62,14 +62,14 @@ pub order_refuted : (o p : Order) (bytes y : List ℕ) (line : ℕ) (f : Shown) 
 order_refuted o p bytes y line f g h e fault =
     fault_refuted (order_words o) (order_words p) bytes y line f (all_good (order_words o) (order_admitted o g)) (order_admitted p h) (order_match o p) e fault
 
-pub orders_refuted : (filled ps : List Order) (o : Order) (left y : List ℕ) (line : ℕ) (f : Shown) → All FineOrder filled → All FineOrder ps → FineOrder o → length filled < length ps → bytes_of (lines_of filled) ++ left ≡ bytes_of (lines_of ps) ++ y → Fault (order_words o) left line f → ⊥
+pub orders_refuted : (filled ps : List Order) (o : Order) (left y : List ℕ) (line : ℕ) (f : Shown) → AllByRecursion FineOrder filled → AllByRecursion FineOrder ps → FineOrder o → length filled < length ps → bytes_of (lines_of filled) ++ left ≡ bytes_of (lines_of ps) ++ y → Fault (order_words o) left line f → ⊥
 orders_refuted [] [] o left y line f g h fine l e fault = omega arith
 orders_refuted [] (p ∷ ps) o left y line f g h fine l e fault = order_refuted o p left (bytes_of (lines_of ps) ++ y) line f fine h.0 (e ∙ line_first p ps y) fault
 orders_refuted (q ∷ qs) [] o left y line f g h fine l e fault = omega arith
 orders_refuted (q ∷ qs) (p ∷ ps) o left y line f g h fine l e fault =
     orders_refuted qs ps o left y line f g.1 h.1 fine (omega arith) (order_peel q p (bytes_of (lines_of qs) ++ left) (bytes_of (lines_of ps) ++ y) g.0 h.0 (sym (line_first q qs left) ∙ e ∙ line_first p ps y)).1 fault
 
-pub line_refuted : (sheet : List ℕ) (places : ℕ) (f : Shown) (filled : List Order) (t : Settings) (ps : List Order) (y : List ℕ) → InOrder sheet places f filled → SmallSettings t → length ps ≤ orders_max → All FineOrder ps → sheet ≡ bytes_of (head_words t (length ps)) ++ (bytes_of (lines_of ps) ++ y) → ⊥
+pub line_refuted : (sheet : List ℕ) (places : ℕ) (f : Shown) (filled : List Order) (t : Settings) (ps : List Order) (y : List ℕ) → InOrder sheet places f filled → SmallSettings t → length ps ≤ orders_max → AllByRecursion FineOrder ps → sheet ≡ bytes_of (head_words t (length ps)) ++ (bytes_of (lines_of ps) ++ y) → ⊥
 line_refuted sheet places f filled t ps y h small few each e =
     let r = head_peel h.settings t h.count (length ps) (bytes_of (lines_of filled) ++ h.left) (bytes_of (lines_of ps) ++ y) h.small small h.few few
     (sym (sheet_split h.settings h.count filled h.left) ∙ sym h.agrees ∙ e) in

@@ -1,6 +1,6 @@
 -- One order more is filled.
 use Rattle.std.proofs.Common.{◌≡◌, ℕ, ◌+◌, ◌<◌, List, [], ◌∷◌, ◌++◌, length, take, drop, set, sym, refl, ap, ◌∙◌, subst, arith}
-use Rattle.std.specs.List.{AllByRecursion as All}
+use Rattle.std.specs.List.{AllByRecursion}
 use Rattle.std.proofs.lemmas.List.{take_more_set, flat_map_more, drop-set-lt, drop-drop}
 use Rattle.std.proofs.ByRecursion.{All-push}
 use Rattle.orders.specs.declared.order.Order.{Order}
@@ -23,7 +23,7 @@ lines_push orders o = sym (flat_map_more order_words [] orders o)
 pub filled_more : (i : ℕ) (rest : List ℕ) (line : ℕ) (before orders : List Order) (a b : List ℕ) (k l : ℕ) (o : Order) → i < length orders → Filled i rest line before orders a k → FineOrder o → Took (order_words o) a k b l → Filled (i + 1) rest line before (set orders i o) b l
 filled_more i rest line before orders a b k l o h g fine t =
     let e : take (i + 1) (set orders i o) ≡ take i orders ++ (o ∷ []) = take_more_set orders i o h in
-    let E : List Order → Type 0 = λ os. All FineOrder os in
+    let E : List Order → Type 0 = λ os. AllByRecursion FineOrder os in
     let P : List Placed → Type 0 = λ ps. Took ps rest line b l in
     record {
       each = subst E (sym e) (All-push FineOrder (take i orders) o g.each fine);

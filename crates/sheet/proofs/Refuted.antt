@@ -1,6 +1,6 @@
 -- Bytes that have an admitted word at each place fail at none of them; it ends in `fault_refuted`.
 use Rattle.std.proofs.Common.{◌≡◌, ℕ, ◌+◌, cond, eqb, ◌⊎◌, List, [], ◌∷◌, ◌++◌, length, sym, refl, ap, ◌∙◌, subst, inl, inr, append_assoc, add-zero, add_assoc, arith, length-append}
-use Rattle.std.specs.List.{AllByRecursion as All}
+use Rattle.std.specs.List.{AllByRecursion}
 use Rattle.std.proofs.lemmas.List.{append_cancel_left, append-nil}
 use Rattle.std.proofs.lemmas.Bool.{false≢true}
 use Rattle.sheet.specs.Shown.{Shown}
@@ -76,7 +76,7 @@ Matches (p ∷ ps) [] = ⊥
 Matches (p ∷ ps) (q ∷ qs) = Match p q × (p.word ≡ q.word → Matches ps qs)
 
 -- where the bytes have an admitted word at each of some places, the fault is behind them
-pub fault_past : (ps qs rs : List Placed) (bytes y : List ℕ) (line : ℕ) (f : Shown) → All Good ps → All Admitted qs → Matches ps qs → bytes ≡ bytes_of qs ++ y → Fault (ps ++ rs) bytes line f → (k : ℕ) × Fault rs y k f
+pub fault_past : (ps qs rs : List Placed) (bytes y : List ℕ) (line : ℕ) (f : Shown) → AllByRecursion Good ps → AllByRecursion Admitted qs → Matches ps qs → bytes ≡ bytes_of qs ++ y → Fault (ps ++ rs) bytes line f → (k : ℕ) × Fault rs y k f
 fault_past [] [] rs bytes y line f g a m e h = let P : List ℕ → Type 0 = λ b. Fault rs b line f in (line, subst P e h)
 fault_past [] (q ∷ qs) rs bytes y line f g a m e h = absurd m
 fault_past (p ∷ ps) [] rs bytes y line f g a m e h = absurd m
@@ -89,7 +89,7 @@ fault_past (p ∷ ps) (q ∷ qs) rs bytes y line f g a m e h =
           fault_past ps qs rs l.rest y (line + cond (eqb p.separator 10) 1 0) f g.1 a.1 (m.1 u.word) u.rest l.fault
     ]
 
-pub fault_refuted : (ps qs : List Placed) (bytes y : List ℕ) (line : ℕ) (f : Shown) → All Good ps → All Admitted qs → Matches ps qs → bytes ≡ bytes_of qs ++ y → Fault ps bytes line f → ⊥
+pub fault_refuted : (ps qs : List Placed) (bytes y : List ℕ) (line : ℕ) (f : Shown) → AllByRecursion Good ps → AllByRecursion Admitted qs → Matches ps qs → bytes ≡ bytes_of qs ++ y → Fault ps bytes line f → ⊥
 fault_refuted ps qs bytes y line f g a m e h =
     let P : List Placed → Type 0 = λ rs. Fault rs bytes line f in
     let r = fault_past ps qs [] bytes y line f g a m e (subst P (sym (append-nil ps)) h) in

@@ -1,6 +1,6 @@
 -- A sheet has at most one first fault; it ends in `single` and `only`.
 use Rattle.std.proofs.Common.{◌≡◌, ℕ, ◌+◌, ◌<◌, ◌≤◌, ◌&&◌, ltb, List, [], ◌∷◌, ◌++◌, length, take, Ok, Err, decimal, Result, sym, refl, ap, ◌∙◌, subst, inl, inr, arith}
-use Rattle.std.specs.List.{AllByRecursion as All}
+use Rattle.std.specs.List.{AllByRecursion}
 use Rattle.std.proofs.lemmas.Fmt.{decimal_injective, decimal_nonempty}
 use Rattle.std.proofs.lemmas.List.{length-take-le}
 use Rattle.std.proofs.lemmas.Bool.{false≢true}
@@ -79,7 +79,7 @@ crowds_same sheet places f g a b h k =
     let r = peel (front h.settings) (front k.settings) h.left k.left (front_good h.settings h.small) (front_good k.settings k.small) refl (sym h.agrees ∙ k.agrees) in
     (h.says ∙ ap (λ w. shows 35 3 w) (sym h.word ∙ ap word_of r.rest ∙ k.word) ∙ sym k.says, h.none ∙ sym k.none)
 
-orders_same : (a b : List Order) (o p : Order) (x y : List ℕ) (k m n : ℕ) (f g : Shown) → All FineOrder a → All FineOrder b → FineOrder o → FineOrder p → m ≡ k + length a → n ≡ k + length b → bytes_of (lines_of a) ++ x ≡ bytes_of (lines_of b) ++ y → Fault (order_words o) x m f → Fault (order_words p) y n g → (f ≡ g) × (a ≡ b)
+orders_same : (a b : List Order) (o p : Order) (x y : List ℕ) (k m n : ℕ) (f g : Shown) → AllByRecursion FineOrder a → AllByRecursion FineOrder b → FineOrder o → FineOrder p → m ≡ k + length a → n ≡ k + length b → bytes_of (lines_of a) ++ x ≡ bytes_of (lines_of b) ++ y → Fault (order_words o) x m f → Fault (order_words p) y n g → (f ≡ g) × (a ≡ b)
 orders_same [] [] o p x y k m n f g fa fb fo fp i j e h l =
     let P : List ℕ → Type 0 = λ r. Fault (order_words p) r n g in
     let Q : ℕ → Type 0 = λ s. Fault (order_words p) x s g in

@@ -1,6 +1,6 @@
 -- Words without separators are found again in their bytes; it ends in `peel`.
 use Rattle.std.proofs.Common.{◌≡◌, ℕ, suc, ◌+◌, true, false, List, [], ◌∷◌, ◌++◌, length, take, sym, refl, ap, ◌∙◌, append_assoc, one-add, arith}
-use Rattle.std.specs.List.{prefix_len, AllByRecursion as All}
+use Rattle.std.specs.List.{prefix_len, AllByRecursion}
 use Rattle.std.proofs.lemmas.List.{append_cancel_left}
 use Rattle.std.proofs.lemmas.Bool.{cond-true, cond-false}
 use Rattle.sheet.specs.Words.{in_word, word_of, closed}
@@ -8,7 +8,7 @@ use Rattle.sheet.specs.Form.{Placed, bytes_of}
 
 -- no separator in the word
 abbrev pub Plain : List ℕ → Type 0
-Plain w = All (λ b. in_word b ≡ true) w
+Plain w = AllByRecursion (λ b. in_word b ≡ true) w
 
 -- a plain word, and a separator behind it
 pub record Good (p : Placed) : Type 0 where
@@ -56,7 +56,7 @@ pub record Peeled (ps qs : List Placed) (x y : List ℕ) : Type 0 where
   pub words : words_in ps ≡ words_in qs
   pub rest : x ≡ y
 
-pub peel : (ps qs : List Placed) (x y : List ℕ) → All Good ps → All Good qs → length ps ≡ length qs → bytes_of ps ++ x ≡ bytes_of qs ++ y → Peeled ps qs x y
+pub peel : (ps qs : List Placed) (x y : List ℕ) → AllByRecursion Good ps → AllByRecursion Good qs → length ps ≡ length qs → bytes_of ps ++ x ≡ bytes_of qs ++ y → Peeled ps qs x y
 peel [] [] x y g h l e = record { words = refl; rest = e }
 peel [] (q ∷ qs) x y g h l e = absurd (omega arith)
 peel (p ∷ ps) [] x y g h l e = absurd (omega arith)

@@ -1,6 +1,6 @@
 -- What is shown of a place is determined by what is due there; it ends in `fault_same`.
 use Rattle.std.proofs.Common.{◌≡◌, ℕ, ◌+◌, Bool, true, false, cond, ◌&&◌, eqb, ltb, List, [], ◌∷◌, length, drop, sym, refl, ap, ◌∙◌, subst, inl, inr, arith, length-append}
-use Rattle.std.specs.List.{AllByRecursion as All}
+use Rattle.std.specs.List.{AllByRecursion}
 use Rattle.std.proofs.lemmas.List.{nil_from_length}
 use Rattle.std.proofs.lemmas.Bool.{false≢true, eq-eqb, ne_eqb, and_parts, or_cases, or_left, or_right}
 use Rattle.sheet.specs.Shown.{Shown, shows}
@@ -72,7 +72,7 @@ verdict_is p bytes line f a (parted b more c e ne s) =
 other_way : (p q : Placed) → Match p q → Match q p
 other_way p q m = record { due = sym m.due; separator = λ w. sym (m.separator (sym w)) }
 
-pub fault_same : (ps qs : List Placed) (bytes : List ℕ) (line : ℕ) (f g : Shown) → All Admitted ps → All Admitted qs → Matches ps qs → Fault ps bytes line f → Fault qs bytes line g → f ≡ g
+pub fault_same : (ps qs : List Placed) (bytes : List ℕ) (line : ℕ) (f g : Shown) → AllByRecursion Admitted ps → AllByRecursion Admitted qs → Matches ps qs → Fault ps bytes line f → Fault qs bytes line g → f ≡ g
 fault_same [] qs bytes line f g a b m h k = absurd (no_place bytes line f h)
 fault_same (p ∷ ps) [] bytes line f g a b m h k = absurd m
 fault_same (p ∷ ps) (q ∷ qs) bytes line f g a b m h k =

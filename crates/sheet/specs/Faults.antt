@@ -1,6 +1,6 @@
 -- The first fault of a sheet: where it leaves every writable sheet.
 use Rattle.std.specs.Prelude.{◌≡◌, ℕ, ◌+◌, ◌<◌, ◌≤◌, Bool, true, false, ◌&&◌, ◌||◌, List, [], ◌∷◌, ◌++◌, length, drop, codes, decimal, ◌≢◌, nat_lt}
-use Rattle.std.specs.List.{AllByRecursion as All}
+use Rattle.std.specs.List.{AllByRecursion}
 use Rattle.std.specs.Str.{bytes_eq}
 use Rattle.orders.specs.declared.order.Order.{Order}
 use Rattle.orders.specs.declared.settings.Settings.{Settings}
@@ -82,7 +82,7 @@ pub record InOrder (sheet : List ℕ) (places : ℕ) (f : Shown) (filled : List 
   pub few : count ≤ orders_max
   pub room : count ≤ places
   pub due : length filled < count
-  pub each : All FineOrder filled
+  pub each : AllByRecursion FineOrder filled
   pub fine : FineOrder order
   pub agrees : sheet ≡ bytes_of (head_words settings count ++ lines_of filled) ++ left
   pub fault : Fault (order_words order) left (4 + length filled) f

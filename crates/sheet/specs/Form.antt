@@ -1,7 +1,7 @@
 -- The form of a sheet: its words and bytes, made from settings and orders.
 use Rattle.std.specs.Prelude.{◌≡◌, ℕ, ◌+◌, ◌≤◌, Bool, true, cond, not, ◌||◌, List, [], ◌∷◌, ◌++◌, length, ℤ, codes, decimal, ◌==◌, unsigned_abs}
 use Rattle.std.specs.Fmt.{signed_decimal}
-use Rattle.std.specs.List.{flat_map, AllByRecursion as All}
+use Rattle.std.specs.List.{flat_map, AllByRecursion}
 use Rattle.std.specs.Str.{bytes_eq}
 use Rattle.orders.specs.declared.order.Order.{Order}
 use Rattle.orders.specs.declared.order.Order.TheVariants.{Write, Read, Tell, Carry, ReplicaOut, ClientOut}
@@ -130,4 +130,4 @@ pub record FineOrder (o : Order) : Type 0 where
 pub record Writable (s : Settings) (orders : List Order) : Type 0 where
   pub settings : SmallSettings s
   pub few : length orders ≤ orders_max
-  pub each : All FineOrder orders
+  pub each : AllByRecursion FineOrder orders

@@ -1,6 +1,6 @@
 -- What one step of the reader does: it takes words, or finds a fault at one of them.
 use Rattle.std.specs.Prelude.{◌≡◌, ℕ, ◌+◌, ◌<◌, ◌≤◌, true, false, cond, List, [], ◌∷◌, ◌++◌, take, drop, ℤ, decimal, Result, MatchResult, ◌==◌, ◌≢◌}
-use Rattle.std.specs.List.{AllByRecursion as All}
+use Rattle.std.specs.List.{AllByRecursion}
 use Rattle.orders.specs.declared.order.Order.{Order}
 use Rattle.orders.specs.declared.settings.Settings.{Settings}
 use Rattle.std.specs.Fmt.{signed_decimal}
@@ -81,7 +81,7 @@ pub data Uncounted (places : ℕ) (word : List ℕ) (line : ℕ) (f : Shown) : T
 
 -- as many orders as were counted are taken and filled, and later places are unchanged
 pub record Filled (count : ℕ) (rest : List ℕ) (line : ℕ) (before after : List Order) (rest' : List ℕ) (line' : ℕ) : Type 0 where
-  pub each : All FineOrder (take count after)
+  pub each : AllByRecursion FineOrder (take count after)
   pub took : Took (lines_of (take count after)) rest line rest' line'
   pub lines : line' ≡ line + count
   pub kept : drop count after ≡ drop count before
@@ -92,7 +92,7 @@ pub record Stopped (count : ℕ) (rest : List ℕ) (line : ℕ) (before after : 
   pub left : List ℕ
   pub order : Order
   pub due : filled < count
-  pub each : All FineOrder (take filled after)
+  pub each : AllByRecursion FineOrder (take filled after)
   pub kept : drop filled after ≡ drop filled before
   pub agrees : rest ≡ bytes_of (lines_of (take filled after)) ++ left
   pub fine : FineOrder order

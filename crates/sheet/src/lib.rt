@@ -1,4 +1,6 @@
 // Sheets and listings: orders are read from bytes, and answers are written to bytes.
+#![tactic(auto)]
+
 mod cursor;
 pub mod fault;
 mod field;

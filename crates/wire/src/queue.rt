@@ -33,7 +33,8 @@ impl<'a> Queue<'a> {
 
 // The cell after the last element of a ring.
 pub(crate) fn end_of(start: usize, len: usize, cap: usize) -> usize
-    requires { (start ≤ cap) × (len < cap) }
+    requires start { start ≤ cap }
+    requires len { len < cap }
     ensures at { result ≡ end_of start len cap }
     ensures within { result < cap }
 {
@@ -43,7 +44,8 @@ pub(crate) fn end_of(start: usize, len: usize, cap: usize) -> usize
 
 // The cell of the first element of a ring.
 pub(crate) fn first_of(start: usize, cap: usize) -> usize
-    requires { (start ≤ cap) × (0 < cap) }
+    requires start { start ≤ cap }
+    requires some { 0 < cap }
     ensures at { result ≡ first_of start cap }
     ensures within { result < cap }
 {

@@ -3,4 +3,4 @@ use Rattle.laws.proofs.Stands.{laws}
 use Rattle.laws.proofs.stand.laws_stand.Goals as goal
 
 pub returns : goal.returns
-returns c = (laws, refl)
+returns c = record { laws = laws; count = refl }

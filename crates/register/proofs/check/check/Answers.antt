@@ -3,11 +3,11 @@ use Rattle.register.specs.Opening.{in_ranges, value_in_range}
 use Rattle.register.proofs.Ranges.{ranges_hold, value_holds}
 use Rattle.register.proofs.check.check.Goals as goal
 
-pub invariant-of-result : goal.invariant-of-result
-invariant-of-result g c =
+pub invariant_of-result : goal.invariant_of-result
+invariant_of-result g c =
     let s = c.args.s in
-    let h : in_ranges s ≡ true = sym c.if-not-in-ranges.ensures in
+    let h : in_ranges s ≡ true = sym c.if-not-in_ranges.ensures in
     let r = ranges_hold s h in
     let z : ℤ = to_z w32 (of_z w32 s.initial) in
-    let v : value_in_range z ≡ true = sym c.if-not-value-in-range.ensures in
+    let v : value_in_range z ≡ true = sym c.if-not-value_in_range.ensures in
     (r.replicas, (r.tolerated, (r.groups, (r.readers, (omega arith, (value_holds z v, tt))))))

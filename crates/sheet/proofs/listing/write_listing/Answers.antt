@@ -15,21 +15,21 @@ use Rattle.sheet.proofs.listing.write_listing.Goals as goal
 more : (answers : List Answer) (i : ℕ) (l : Listed) → i < length answers → l ≡ listed_as (get_or answers i (Accepted 0)) → listing_of (take (i + 1) answers) ≡ listing_of (take i answers) ++ line_of l
 more answers i l h e = listing_more answers i (Accepted 0) h ∙ ap (λ (m : Listed). listing_of (take i answers) ++ line_of m) (sym e)
 
-pub returns-in-err-write-line : goal.returns-in-err-write-line
-returns-in-err-write-line c =
-    let p = err_from_is_err_and c.from-residual.result c.from-residual.ensures.1 in
-    let w = c.in-err-write-line.ensures in
+pub returns-in_err-write_line : goal.returns-in_err-write_line
+returns-in_err-write_line c =
+    let p = err_from_is_err_and c.from_residual.result c.from_residual.ensures.1 in
+    let w = c.in_err-write_line.ensures in
     let s = c.listed.result in
-    rw (p.1, p.2) (cut_short c.args.answers.now c.loop-a.out c.write-line.new.out (line_of s) c.loop-a.at.len c.write-line.new.at.len c.loop-a.a-index
-    (shown c.in-err-write-line.field-0.0) c.loop-a-test.true (more c.args.answers.now c.loop-a.a-index s c.loop-a-test.true c.listed.ensures)
-    (sym c.write-line.auto.out) c.loop-a.invariant w.wrote w.says)
+    rw (p.1, p.2) (cut_short c.args.answers.now c.loop-a.out c.write_line.new.out (line_of s) c.loop-a.at.len c.write_line.new.at.len c.loop-a.a-index
+    (shown c.in_err-write_line.field-0.0) c.loop-a-test.true (more c.args.answers.now c.loop-a.a-index s c.loop-a-test.true c.listed.ensures)
+    (sym c.write_line.auto.out) c.loop-a.invariant w.wrote w.says)
 
 pub loop-a-preserved : goal.loop-a-preserved
 loop-a-preserved c =
-    let w = c.in-ok-write-line.ensures in
+    let w = c.in_ok-write_line.ensures in
     let s = c.listed.result in
-    holds_more c.loop-a.out c.write-line.new.out (listing_of (take c.loop-a.a-index c.args.answers.now)) (line_of s) _ c.loop-a.at.len c.write-line.new.at.len
-    (more c.args.answers.now c.loop-a.a-index s c.loop-a-test.true c.listed.ensures) (sym c.write-line.auto.out) c.loop-a.invariant w.wrote
+    holds_more c.loop-a.out c.write_line.new.out (listing_of (take c.loop-a.a-index c.args.answers.now)) (line_of s) _ c.loop-a.at.len c.write_line.new.at.len
+    (more c.args.answers.now c.loop-a.a-index s c.loop-a-test.true c.listed.ensures) (sym c.write_line.auto.out) c.loop-a.invariant w.wrote
 
 pub returns : goal.returns
 returns c =

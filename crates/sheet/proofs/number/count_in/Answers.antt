@@ -6,6 +6,6 @@ use Rattle.sheet.proofs.number.count_in.Goals as goal
 
 pub returns : goal.returns
 returns c =
-    let n = c.in-ok-n.ensures in
-    let apart = not_from_Decides c.has-places.result c.has-places.ensures c.if-has-places.false in
-    unplaced c.in-ok-n.n n.small (omega (arith, apart)) n.same refl
+    let n = c.in_ok-n.ensures in
+    let apart = not_from_Decides c.has_places.result c.has_places.ensures c.if-has_places.false in
+    unplaced c.in_ok-n.n n.small (omega (arith, apart)) n.same refl

@@ -5,4 +5,4 @@ use Rattle.sheet.proofs.Numbers.{negated_is}
 use Rattle.sheet.proofs.word.is_negated.Goals as goal
 
 pub returns : goal.returns
-returns c = negated_is c.args.word.now c.is-numeral.result c.is-numeral.ensures (grind (arith, nat_tests))
+returns c = negated_is c.args.word.now c.is_numeral.result c.is_numeral.ensures (grind (arith, nat_tests))

@@ -8,7 +8,7 @@ use Rattle.channels.proofs.delay.Delay.pop.Goals as goal
 pub returns : goal.returns
 returns g c =
     let q = c.args.self.now in
-    let at = c.first-of-at in
+    let at = c.first_of-at in
     let low : at.result < length q.cells = omega (arith, at.ensures.within, q.long) in
     let same : c.oldest-m.result ≡ get_or q.cells at.result blank = c.oldest-m.ensures ∙ ap (λ i. get_or q.cells i blank) (sym at.ensures.at) in
     let read : c.oldest-m.result ≡ get_or q.cells at.result c.oldest-m.result = same ∙ get_or_default q.cells at.result _ _ low in

@@ -6,8 +6,8 @@ use Rattle.channels.specs.Slots.{somes, gaps}
 use Rattle.channels.proofs.Slotted.{slot_freed, none_held}
 use Rattle.channels.proofs.slots.SlotsChannel.take.Goals as goal
 
-pub returns-in-default : goal.returns-in-default
-returns-in-default c = let e = none_held c.args.self.now.table c.in-default.ensures in record { meets = (e, e, refl); lowest = tt }
+pub returns-in_default : goal.returns-in_default
+returns-in_default c = let e = none_held c.args.self.now.table c.in_default.ensures in record { meets = (e, e, refl); lowest = tt }
 
 pub returns : goal.returns
 returns c =

@@ -11,4 +11,4 @@ pub returns-then-rest-n : goal.returns-then-rest-n
 returns-then-rest-n c = swaps c.args.self.now.rest.now c.args.word.now c.args.separator c.args.self.now.line c.requires.next c.if-n-rest.false c.if-rest-n.true
 
 pub returns : goal.returns
-returns c = closes c.args.self.now.rest.now c.args.word.now c.args.separator c.args.self.now.line _ c.requires.next c.if-n-rest.false c.if-rest-n.false c.line-behind-self.ensures
+returns c = closes c.args.self.now.rest.now c.args.word.now c.args.separator c.args.self.now.line _ c.requires.next c.if-n-rest.false c.if-rest-n.false c.line_behind-self.ensures

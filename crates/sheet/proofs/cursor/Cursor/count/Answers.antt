@@ -8,14 +8,14 @@ use Rattle.sheet.proofs.Counting.{miscounted_after}
 use Rattle.sheet.proofs.Walks.{longer, both}
 use Rattle.sheet.proofs.cursor.Cursor.count.Goals as goal
 
-pub returns-in-err-fixed : goal.returns-in-err-fixed
-returns-in-err-fixed c =
-    let p = err_from_is_err_and c.from-residual.result c.from-residual.ensures.1 in
-    let m = c.in-err-fixed.ensures in
+pub returns-in_err-fixed : goal.returns-in_err-fixed
+returns-in_err-fixed c =
+    let p = err_from_is_err_and c.from_residual.result c.from_residual.ensures.1 in
+    let m = c.in_err-fixed.ensures in
     rw (p.1, p.2) (wrong (record { like = 0; fine = (omega arith, omega arith); fault = longer (number_words orders_max 10 0) m.fault }))
 
 pub returns : goal.returns
 returns c =
-    let t = c.in-ok-fixed.ensures in
-    MatchResult-weaker c.count-next.result c.count-next.ensures (λ n h. (h.0, both t.1 h.1))
+    let t = c.in_ok-fixed.ensures in
+    MatchResult-weaker c.count_next.result c.count_next.ensures (λ n h. (h.0, both t.1 h.1))
     (λ y m. miscounted_after orders_words [] c.args.places c.args.self.now.rest.now c.fixed.new.self.rest.now c.args.self.now.line c.fixed.new.self.line (shown y) t.1 m)

@@ -7,14 +7,14 @@ use Rattle.sheet.specs.Shown.{shown}
 use Rattle.sheet.proofs.Walks.{missed_ended}
 use Rattle.sheet.proofs.cursor.Cursor.kind.Goals as goal
 
-pub returns-in-err-word : goal.returns-in-err-word
-returns-in-err-word c =
-    let p = err_from_is_err_and c.from-residual.result c.from-residual.ensures.1 in
-    let e = c.in-err-word.ensures in
+pub returns-in_err-word : goal.returns-in_err-word
+returns-in_err-word c =
+    let p = err_from_is_err_and c.from_residual.result c.from_residual.ensures.1 in
+    let e = c.in_err-word.ensures in
     rw (p.1, p.2)
     (record {
       like = Carry;
       fine = tt;
       fault =
-          missed_ended (placed kind (word_for Carry) 10) c.args.self.now.rest.now c.args.self.now.line (shown c.in-err-word.field-0.0) e.0 e.1;
+          missed_ended (placed kind (word_for Carry) 10) c.args.self.now.rest.now c.args.self.now.line (shown c.in_err-word.field-0.0) e.0 e.1;
     })

@@ -7,27 +7,27 @@ use Rattle.sheet.specs.Shown.{shown}
 use Rattle.sheet.proofs.Walks.{missed_unfit, missed_unclosed}
 use Rattle.sheet.proofs.cursor.Cursor.kind_at.Goals as goal
 
-pub returns-in-err-k : goal.returns-in-err-k
-returns-in-err-k c =
-    let p = err_from_is_err_and c.from-residual.result c.from-residual.ensures.1 in
+pub returns-in_err-k : goal.returns-in_err-k
+returns-in_err-k c =
+    let p = err_from_is_err_and c.from_residual.result c.from_residual.ensures.1 in
     rw (p.1, p.2)
     (record {
       like = Carry;
       fine = tt;
       fault =
-          missed_unfit (placed kind (word_for Carry) 10) c.args.self.now.rest.now c.args.word.now c.args.self.now.line (shown c.in-err-k.field-0.0)
-          c.requires.next c.requires.some c.in-err-k.ensures;
+          missed_unfit (placed kind (word_for Carry) 10) c.args.self.now.rest.now c.args.word.now c.args.self.now.line (shown c.in_err-k.field-0.0)
+          c.requires.next c.requires.some c.in_err-k.ensures;
     })
 
-pub returns-in-err-close : goal.returns-in-err-close
-returns-in-err-close c =
-    let p = err_from_is_err_and c.from-residual-in-err-close.result c.from-residual-in-err-close.ensures.1 in
-    let k = c.in-ok-k.k in
+pub returns-in_err-close : goal.returns-in_err-close
+returns-in_err-close c =
+    let p = err_from_is_err_and c.from_residual-in_err-close.result c.from_residual-in_err-close.ensures.1 in
+    let k = c.in_ok-k.k in
     rw (p.1, p.2)
     (record {
       like = k;
       fine = tt;
       fault =
-          missed_unclosed (placed kind (word_for k) (separator_for k)) c.args.self.now.rest.now c.args.word.now c.args.self.now.line (shown c.in-err-close.field-0.0)
-          c.in-ok-k.ensures (simp c.separator.ensures at c.in-err-close.ensures);
+          missed_unclosed (placed kind (word_for k) (separator_for k)) c.args.self.now.rest.now c.args.word.now c.args.self.now.line (shown c.in_err-close.field-0.0)
+          c.in_ok-k.ensures (simp c.separator.ensures at c.in_err-close.ensures);
     })

@@ -6,27 +6,27 @@ use Rattle.sheet.specs.Shown.{shown}
 use Rattle.sheet.proofs.Walks.{missed_unfit, missed_unclosed}
 use Rattle.sheet.proofs.cursor.Cursor.number_at.Goals as goal
 
-pub returns-in-err-n : goal.returns-in-err-n
-returns-in-err-n c =
-    let p = err_from_is_err_and c.from-residual.result c.from-residual.ensures.1 in
+pub returns-in_err-n : goal.returns-in_err-n
+returns-in_err-n c =
+    let p = err_from_is_err_and c.from_residual.result c.from_residual.ensures.1 in
     rw (p.1, p.2)
     (record {
       like = 0;
       fine = omega arith;
       fault =
-          missed_unfit (placed (number c.args.limit) (decimal 0) c.args.separator) c.args.self.now.rest.now c.args.word.now c.args.self.now.line (shown c.in-err-n.field-0.0)
-          c.requires.next c.requires.some c.in-err-n.ensures;
+          missed_unfit (placed (number c.args.limit) (decimal 0) c.args.separator) c.args.self.now.rest.now c.args.word.now c.args.self.now.line (shown c.in_err-n.field-0.0)
+          c.requires.next c.requires.some c.in_err-n.ensures;
     })
 
-pub returns-in-err-close : goal.returns-in-err-close
-returns-in-err-close c =
-    let p = err_from_is_err_and c.from-residual-in-err-close.result c.from-residual-in-err-close.ensures.1 in
-    let n = c.in-ok-n.ensures in
+pub returns-in_err-close : goal.returns-in_err-close
+returns-in_err-close c =
+    let p = err_from_is_err_and c.from_residual-in_err-close.result c.from_residual-in_err-close.ensures.1 in
+    let n = c.in_ok-n.ensures in
     rw (p.1, p.2)
     (record {
-      like = c.in-ok-n.n;
+      like = c.in_ok-n.n;
       fine = n.small;
       fault =
-          missed_unclosed (placed (number c.args.limit) (decimal c.in-ok-n.n) c.args.separator) c.args.self.now.rest.now c.args.word.now c.args.self.now.line (shown c.in-err-close.field-0.0)
-          n.same c.in-err-close.ensures;
+          missed_unclosed (placed (number c.args.limit) (decimal c.in_ok-n.n) c.args.separator) c.args.self.now.rest.now c.args.word.now c.args.self.now.line (shown c.in_err-close.field-0.0)
+          n.same c.in_err-close.ensures;
     })

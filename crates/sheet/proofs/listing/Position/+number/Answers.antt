@@ -11,14 +11,14 @@ returns-then-n-lt10 t c =
     let P : List ℕ → Type 0 = λ bs. Put c.args.out.now c.args.self.now.len c.byte.new.out c.byte.new.self.len bs (is_ok c.byte.result) in
     subst P (sym (decimal_digit c.args.n (omega arith))) c.byte.ensures
 
-pub returns-in-err-number : goal.returns-in-err-number
-returns-in-err-number t c =
-    let p = err_from_is_err_and c.from-residual.result c.from-residual.ensures.1 in
+pub returns-in_err-number : goal.returns-in_err-number
+returns-in_err-number t c =
+    let p = err_from_is_err_and c.from_residual.result c.from_residual.ensures.1 in
     let ten : 10 ≤ c.args.n = omega arith in
     let small : c.args.n < 2 ^ 64 = omega arith in
     rw (p.1, decimal_step c.args.n ten small)
     (none_more c.args.out.now c.number.new.out c.args.self.now.len c.number.new.self.len c.number.new.self.len
-    (decimal (c.args.n / 10)) ((48 + c.args.n % 10) ∷ []) c.in-err-number.ensures)
+    (decimal (c.args.n / 10)) ((48 + c.args.n % 10) ∷ []) c.in_err-number.ensures)
 
 pub returns : goal.returns
 returns t c =
@@ -27,4 +27,4 @@ returns t c =
     let P : List ℕ → Type 0 = λ bs. Put c.args.out.now c.args.self.now.len c.byte-2.new.out c.byte-2.new.self.len bs (is_ok c.byte-2.result) in
     subst P (sym (decimal_step c.args.n ten small))
     (then_more c.args.out.now c.number.new.out c.byte-2.new.out c.args.self.now.len c.number.new.self.len c.byte-2.new.self.len
-    (decimal (c.args.n / 10)) ((48 + c.args.n % 10) ∷ []) (is_ok c.byte-2.result) (omega arith) c.in-ok-number.ensures c.byte-2.ensures)
+    (decimal (c.args.n / 10)) ((48 + c.args.n % 10) ∷ []) (is_ok c.byte-2.result) (omega arith) c.in_ok-number.ensures c.byte-2.ensures)

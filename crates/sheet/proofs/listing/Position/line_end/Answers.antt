@@ -7,28 +7,28 @@ use Rattle.sheet.specs.Words.{closed}
 use Rattle.sheet.proofs.Lines.{then_more, none_more}
 use Rattle.sheet.proofs.listing.Position.line_end.Goals as goal
 
-pub returns-in-err-closed-number : goal.returns-in-err-closed-number
-returns-in-err-closed-number c =
-    let p = err_from_is_err_and c.from-residual.result c.from-residual.ensures.1 in
+pub returns-in_err-closed_number : goal.returns-in_err-closed_number
+returns-in_err-closed_number c =
+    let p = err_from_is_err_and c.from_residual.result c.from_residual.ensures.1 in
     let l = c.args.l in
-    rw p.1 (none_more c.args.out.now c.closed-number.new.out c.args.self.now.len c.closed-number.new.self.len c.closed-number.new.self.len
-    (closed (decimal l.version) 32) (closed (signed_decimal l.value) 32 ++ closed (decimal l.rounds) 10) c.in-err-closed-number.ensures)
+    rw p.1 (none_more c.args.out.now c.closed_number.new.out c.args.self.now.len c.closed_number.new.self.len c.closed_number.new.self.len
+    (closed (decimal l.version) 32) (closed (signed_decimal l.value) 32 ++ closed (decimal l.rounds) 10) c.in_err-closed_number.ensures)
 
-pub returns-in-err-closed-value : goal.returns-in-err-closed-value
-returns-in-err-closed-value c =
-    let p = err_from_is_err_and c.from-residual-in-err-closed-value.result c.from-residual-in-err-closed-value.ensures.1 in
+pub returns-in_err-closed_value : goal.returns-in_err-closed_value
+returns-in_err-closed_value c =
+    let p = err_from_is_err_and c.from_residual-in_err-closed_value.result c.from_residual-in_err-closed_value.ensures.1 in
     let l = c.args.l in
     let fit : SFits w32 l.value = search rules in
-    rw p.1 (then_more c.args.out.now c.closed-number.new.out c.closed-value.new.out c.args.self.now.len c.closed-number.new.self.len c.closed-value.new.self.len
-    (closed (decimal l.version) 32) (closed (signed_decimal l.value) 32 ++ closed (decimal l.rounds) 10) false (omega arith) c.in-ok-closed-number.ensures
-    (none_more c.closed-number.new.out c.closed-value.new.out c.closed-number.new.self.len c.closed-value.new.self.len c.closed-value.new.self.len
-    (closed (signed_decimal l.value) 32) (closed (decimal l.rounds) 10) (simp to_z-of_z at c.in-err-closed-value.ensures)))
+    rw p.1 (then_more c.args.out.now c.closed_number.new.out c.closed_value.new.out c.args.self.now.len c.closed_number.new.self.len c.closed_value.new.self.len
+    (closed (decimal l.version) 32) (closed (signed_decimal l.value) 32 ++ closed (decimal l.rounds) 10) false (omega arith) c.in_ok-closed_number.ensures
+    (none_more c.closed_number.new.out c.closed_value.new.out c.closed_number.new.self.len c.closed_value.new.self.len c.closed_value.new.self.len
+    (closed (signed_decimal l.value) 32) (closed (decimal l.rounds) 10) (simp to_z-of_z at c.in_err-closed_value.ensures)))
 
 pub returns : goal.returns
 returns c =
     let l = c.args.l in
     let fit : SFits w32 l.value = search rules in
-    then_more c.args.out.now c.closed-number.new.out c.closed-number-2.new.out c.args.self.now.len c.closed-number.new.self.len c.closed-number-2.new.self.len
-    (closed (decimal l.version) 32) (closed (signed_decimal l.value) 32 ++ closed (decimal l.rounds) 10) (is_ok c.closed-number-2.result) (omega arith) c.in-ok-closed-number.ensures
-    (then_more c.closed-number.new.out c.closed-value.new.out c.closed-number-2.new.out c.closed-number.new.self.len c.closed-value.new.self.len c.closed-number-2.new.self.len
-    (closed (signed_decimal l.value) 32) (closed (decimal l.rounds) 10) (is_ok c.closed-number-2.result) (omega arith) (simp to_z-of_z at c.in-ok-closed-value.ensures) c.closed-number-2.ensures)
+    then_more c.args.out.now c.closed_number.new.out c.closed_number-2.new.out c.args.self.now.len c.closed_number.new.self.len c.closed_number-2.new.self.len
+    (closed (decimal l.version) 32) (closed (signed_decimal l.value) 32 ++ closed (decimal l.rounds) 10) (is_ok c.closed_number-2.result) (omega arith) c.in_ok-closed_number.ensures
+    (then_more c.closed_number.new.out c.closed_value.new.out c.closed_number-2.new.out c.closed_number.new.self.len c.closed_value.new.self.len c.closed_number-2.new.self.len
+    (closed (signed_decimal l.value) 32) (closed (decimal l.rounds) 10) (is_ok c.closed_number-2.result) (omega arith) (simp to_z-of_z at c.in_ok-closed_value.ensures) c.closed_number-2.ensures)

@@ -13,9 +13,9 @@ below-zero (negsuc n) h = refl
 pub returns : goal.returns
 returns c =
     let neg : c.args.z <ℤ pos 0 = search rules in
-    let m : c.unsigned-abs-2.result ≡ nat_abs c.args.z = c.unsigned-abs-2.ensures.value ∙ ap nat_abs (to_z-of_z w32 c.args.z c.ranges.z) in
-    let e : 45 ∷ decimal c.unsigned-abs-2.result ≡ signed_decimal c.args.z = ap (λ n. 45 ∷ decimal n) m ∙ sym (below-zero c.args.z neg) in
+    let m : c.unsigned_abs-2.result ≡ nat_abs c.args.z = c.unsigned_abs-2.ensures.value ∙ ap nat_abs (to_z-of_z w32 c.args.z c.ranges.z) in
+    let e : 45 ∷ decimal c.unsigned_abs-2.result ≡ signed_decimal c.args.z = ap (λ n. 45 ∷ decimal n) m ∙ sym (below-zero c.args.z neg) in
     let P : List ℕ → Type 0 = λ bs. Put c.args.out.now c.args.self.now.len c.number-2.new.out c.number-2.new.self.len bs (is_ok c.number-2.result) in
     subst P e
     (then_more c.args.out.now c.byte.new.out c.number-2.new.out c.args.self.now.len c.byte.new.self.len c.number-2.new.self.len
-    (45 ∷ []) (decimal c.unsigned-abs-2.result) (is_ok c.number-2.result) (omega arith) c.in-ok-byte.ensures c.number-2.ensures)
+    (45 ∷ []) (decimal c.unsigned_abs-2.result) (is_ok c.number-2.result) (omega arith) c.in_ok-byte.ensures c.number-2.ensures)

@@ -8,5 +8,5 @@ use Rattle.wire.proofs.queue.QueueChannel.put.Goals as goal
 pub returns : goal.returns
 returns c =
     let q = c.args.self.now in
-    let lt : q.len < length q.cells.now = leb-false (length q.cells.now) q.len (sym c.is-full.ensures ∙ c.if-is-full.false) in
-    (put_last _ _ _ (ring_push q.cells.now q.start q.len _ c.args.m q.within lt c.end-of-at.ensures.at), simp length-set (omega arith))
+    let lt : q.len < length q.cells.now = leb-false (length q.cells.now) q.len (sym c.is_full.ensures ∙ c.if-is_full.false) in
+    (put_last _ _ _ (ring_push q.cells.now q.start q.len _ c.args.m q.within lt c.end_of-at.ensures.at), simp length-set (omega arith))

@@ -7,5 +7,5 @@ use Rattle.wire.proofs.queue.QueueChannel.take.Goals as goal
 pub returns : goal.returns
 returns c =
     let q = c.args.self.now in
-    let e = ring_pop q.cells.now q.start q.len c.first-of-at.result _ q.within (omega arith) q.few c.first-of-at.ensures.at (get_or_default q.cells.now c.first-of-at.result _ _ c.first-of-at.ensures.within) in
+    let e = ring_pop q.cells.now q.start q.len c.first_of-at.result _ q.within (omega arith) q.few c.first_of-at.ensures.at (get_or_default q.cells.now c.first_of-at.result _ _ c.first_of-at.ensures.within) in
     record { meets = (same_list _ _ e, omega arith); oldest = e }
