@@ -1,11 +1,11 @@
 -- Two stores side by side, as lists with the same elements: what one takes in or gives, both do.
-use Rattle.std.proofs.Common.{◌≡◌, ℕ, ◌+◌, ◌-◌, ◌≤◌, List, [], ◌∷◌, ◌++◌, length, Some, None, Ok, Err, Option, Result, refl, inr, arith}
+use Rattle.std.proofs.Common.{◌≡◌, ℕ, ◌+◌, ◌-◌, ◌≤◌, List, [], ◌∷◌, ◌++◌, length, Some, None, Ok, Err, Option, Result, inr, arith}
 use Rattle.std.specs.List.Sorted.{IsPermutation}
 use Rattle.std.proofs.lemmas.List.{append-nil, nil_from_length}
 use Rattle.wire.specs.declared.message.Message.{Message}
 use Rattle.wire.specs.Channel.{Put, Taken}
 use Rattle.channels.specs.Delay.{Kept, Entered}
-use Rattle.wire.proofs.Shuffles.{same_list, put_last, two_front, shuffled_mid}
+use Rattle.wire.proofs.Shuffles.{same_list, put_last, shuffled_mid}
 use Rattle.std.proofs.lemmas.List.Sorted.{IsPermutation-cons, IsPermutation-trans, IsPermutation-sym, length_permutation}
 
 module _ {X : Type 0} where

@@ -6,7 +6,6 @@ use orders::order::Order;
 use runner::drill::drill;
 use sheet::listing::Position;
 use std::io::{Read, Write};
-use wire::channel::Channel;
 use wire::message::Message;
 use wire::queue::Queue;
 

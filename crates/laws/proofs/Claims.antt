@@ -1,5 +1,5 @@
 -- The other two claims.
-use Rattle.std.proofs.Common.{◌≡◌, ℕ, ◌+◌, ◌<◌, ◌≤◌, false, ◌⊎◌, List, [], ◌∷◌, ℤ}
+use Rattle.std.proofs.Common.{◌≡◌, ℕ, ◌<◌, false, ◌⊎◌, List, [], ℤ}
 use Rattle.std.specs.List.{AllByRecursion}
 use Rattle.laws.proofs.Cards.{Params, Fit}
 use Rattle.register.specs.Past.{Entry}

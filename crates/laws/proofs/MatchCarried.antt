@@ -1,5 +1,5 @@
 -- A message that is taken from the channel: it is never stray, and one that does nothing is lost in the model too. It ends in `nothing_reaches`.
-use Rattle.std.proofs.Common.{◌≡◌, ◌-◌, ◌≤◌, true, false, ltb, leb, ◌⊎◌, List, ◌∷◌, map, refl, ap, ◌∙◌, arith}
+use Rattle.std.proofs.Common.{◌≡◌, ◌≤◌, true, false, ltb, leb, ◌⊎◌, List, ◌∷◌, map, refl, ap, ◌∙◌, arith}
 use Rattle.std.specs.List.{AllByRecursion}
 use Rattle.std.specs.List.Sorted.{IsPermutation}
 use Rattle.std.proofs.lemmas.Bool.{le-ltb, lt-leb, or_from, cond-true, cond-false}

@@ -11,7 +11,7 @@ use Rattle.orders.specs.declared.answer.Refusal.TheVariants.{Unknown, Withdrawn,
 use Rattle.orders.specs.declared.answer.Answer.TheVariants.{Refused}
 use Rattle.register.specs.declared.settings.Checked.{Checked}
 use Rattle.register.specs.declared.register.Register.{Register}
-use Rattle.register.specs.Past.{World, world, Entry}
+use Rattle.register.specs.Past.{World, Entry}
 use Rattle.laws.proofs.Model as model
 use Rattle.laws.proofs.Model.{entry, Same}
 use Rattle.laws.proofs.Matching.{params_of, msg_of, Proper, RegisterMatches, Matches}

@@ -1,5 +1,5 @@
 -- A message at its replica: lost, stale, or taken and replied to, as in the model. It ends in `replica_reaches`.
-use Rattle.std.proofs.Common.{◌≡◌, ℕ, ◌+◌, ◌-◌, ◌<◌, ◌≤◌, min, max, true, false, cond, ◌||◌, eqb, ltb, leb, ◌⊎◌, List, [], ◌∷◌, ◌++◌, map, get_or, set, Some, None, Option, sym, refl, ap, ◌∙◌, subst, inl, inr, arith}
+use Rattle.std.proofs.Common.{◌≡◌, ℕ, ◌+◌, ◌<◌, ◌≤◌, min, max, true, false, cond, ◌||◌, eqb, ltb, leb, ◌⊎◌, List, [], ◌∷◌, ◌++◌, map, get_or, set, Some, None, Option, sym, refl, ap, ◌∙◌, subst, inl, inr, arith}
 use lib.Bits.{bit_or, or_lt}
 use Rattle.std.specs.Option.{option_to_list}
 use Rattle.std.specs.List.Sorted.{IsPermutation}
@@ -11,7 +11,7 @@ use Rattle.orders.specs.declared.order.Order.TheVariants.{Carry}
 use Rattle.orders.specs.declared.answer.Answer.{Answer}
 use Rattle.orders.specs.declared.answer.Answer.TheVariants.{Replied, Lost, Ignored}
 use Rattle.replica.specs.declared.row.Row.{Row}
-use Rattle.replica.specs.Replica.{record_of, misdirected, is_stale, is_news, fresh, reply_from, replied, delivered, delivered_reply}
+use Rattle.replica.specs.Replica.{record_of, misdirected, is_stale, is_news, fresh, reply_from, delivered, delivered_reply}
 use Rattle.register.specs.declared.settings.Checked.{Checked}
 use Rattle.register.specs.declared.register.Register.{Register}
 use Rattle.register.specs.State.{row_at, with_row, blank_row}

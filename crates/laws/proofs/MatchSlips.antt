@@ -1,13 +1,13 @@
 -- Sets of slips and counts of readings: a set of m exists exactly if at least m readings pass. It ends in `count_from_several`.
-use Rattle.std.proofs.Common.{◌≡◌, ℕ, suc, ◌-◌, ◌≤◌, Bool, true, cond, eqb, ◌⊎◌, List, [], ◌∷◌, map, reverse, length, count_by, filter, sym, refl, ap, ◌∙◌, subst, inl, inr, arith}
+use Rattle.std.proofs.Common.{◌≡◌, ℕ, suc, ◌≤◌, Bool, true, cond, eqb, ◌⊎◌, List, [], ◌∷◌, map, reverse, length, count_by, filter, sym, refl, ap, ◌∙◌, subst, inl, inr, arith}
 use Rattle.std.specs.List.{ContainsAt as Has, AllByRecursion}
 use Rattle.std.proofs.lemmas.List.{reverse-reverse, length-map}
 use Rattle.std.proofs.ByRecursion.{All-map, all-has, all_has_itself, all_kept_by, All-weaker, kept_by_passes}
 use Rattle.std.proofs.lemmas.List.Sums.{length-filter}
 use Rattle.std.proofs.lemmas.Bool.{cond_both, both_ways, eqb-true, eqb-false}
 use Rattle.quorum.specs.declared.slip.Reading.{Reading}
-use Rattle.quorum.specs.Tallies.{from, Once}
-use Rattle.quorum.proofs.Sets.{chosen, chosen_map, chosen_once}
+use Rattle.quorum.specs.Tallies.{Once}
+use Rattle.quorum.proofs.Sets.{chosen_map, chosen_once}
 use Rattle.laws.proofs.Sets.{Lacks, Distinct}
 use Rattle.laws.proofs.Cards.{Card, Slip, replicas_of, Several}
 use Rattle.laws.proofs.Matching.{reading_slip, ReadingsAre}

@@ -1,5 +1,5 @@
 -- A small mathematical model of the register: tables as functions, one card for replica, slip and message, and its pasts. No statement mentions it.
-use Rattle.std.proofs.Common.{◌≡◌, ℕ, zero, suc, ◌+◌, ◌-◌, ◌*◌, ◌%◌, ◌^◌, ◌<◌, ◌≤◌, max, Bool, true, false, cond, ◌&&◌, eqb, ltb, ◌⊎◌, List, [], ◌∷◌, ◌++◌, length, ℤ}
+use Rattle.std.proofs.Common.{◌≡◌, ℕ, zero, suc, ◌+◌, ◌*◌, ◌<◌, ◌≤◌, max, Bool, true, false, cond, eqb, ltb, ◌⊎◌, List, [], ◌∷◌, ◌++◌, length, ℤ}
 use lib.Bits.{bit_or}
 use Rattle.wire.specs.declared.message.Message.{Message}
 use Rattle.orders.specs.declared.order.Order.{Order}
@@ -8,8 +8,8 @@ use Rattle.orders.specs.declared.answer.Answer.{Answer}
 use Rattle.orders.specs.declared.answer.Answer.TheVariants.{Accepted, Replied, Counted, Ended, BecameDue}
 use Rattle.orders.specs.Answers.{listed_as}
 use Rattle.register.specs.Past.{Entry}
-use Rattle.std.specs.List.{ContainsAt as Has, AllByRecursion}
-use Rattle.laws.proofs.Sets.{Lacks, Distinct, Within}
+use Rattle.std.specs.List.{ContainsAt as Has}
+use Rattle.laws.proofs.Sets.{Lacks}
 use Rattle.laws.proofs.Cards.{Params, Card, Slip, replicas_of, highest, Decision}
 
 abbrev pub put : {A : Type 0} → (ℕ → A) → ℕ → A → ℕ → A

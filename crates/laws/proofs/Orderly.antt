@@ -4,7 +4,7 @@ use Rattle.std.proofs.ByRecursion.{All-weaker}
 use Rattle.std.specs.List.{AllByRecursion}
 use Rattle.laws.proofs.Cards.{Params, Card, Slip, Later}
 use Rattle.laws.proofs.Model.{put, writes, reads, tells, Phase, idle, due, awaiting, Client, sets}
-use Rattle.laws.proofs.History.{Done, value_at, begun, spent, Ordered}
+use Rattle.laws.proofs.History.{Done, value_at, Ordered}
 use Rattle.laws.proofs.Line.{Wrote}
 use Rattle.laws.proofs.Members.{has_here, has_there, all_two}
 use Rattle.laws.proofs.Tables.{put_case, put_three, put_four}

@@ -10,7 +10,7 @@ use Rattle.orders.specs.Answers.{listed_as}
 use Rattle.register.specs.Past.{Entry}
 use Rattle.laws.specs.Operations as entries
 use Rattle.laws.specs.Laws as laws
-use Rattle.laws.proofs.Calls.{At, Calls, Starts, BeginsAt, EndsAt, NextEnd, AwaitsTell, Withdrawn}
+use Rattle.laws.proofs.Calls.{At, Calls, Starts, BeginsAt, NextEnd, AwaitsTell, Withdrawn}
 
 -- ---- a log, the oldest entry first
 

@@ -1,5 +1,5 @@
 -- A session opens over an empty channel with a place for each replica.
-use Rattle.std.proofs.Common.{◌≡◌, ℕ, ◌+◌, ◌*◌, ◌≤◌, Bool, true, false, cond, not, leb, List, [], length, Some, None, Option, sym, refl, ap, ◌∙◌, subst, arith}
+use Rattle.std.proofs.Common.{◌≡◌, ℕ, ◌+◌, ◌*◌, ◌≤◌, Bool, true, false, cond, not, leb, List, [], length, Some, None, Option, refl, ap, subst, arith}
 use Rattle.std.proofs.lemmas.List.{nil_from_length}
 use Rattle.std.proofs.lemmas.Bool.Decides.{nat_tests}
 use Rattle.wire.specs.declared.message.Message.{Message}
@@ -13,7 +13,7 @@ use Rattle.register.specs.State.{opened}
 use Rattle.register.specs.Opening.{opening_fault, channel_fault, in_channel, in_ranges, value_in_range}
 use Rattle.register.specs.Past.{World, world, Past}
 use Rattle.register.specs.Session.{Session}
-use Rattle.laws.specs.Laws.{Laws, Lawful}
+use Rattle.laws.specs.Laws.{Laws}
 use Rattle.laws.specs.Performing.{LawfulSession}
 
 no_cond : {A : Type 0} (b : Bool) (x : A) (o : Option A) → cond b (Some x) o ≡ None → o ≡ None

@@ -10,7 +10,6 @@ use Rattle.orders.specs.declared.order.Order.TheVariants.{Write, Read, Tell, Car
 use Rattle.orders.specs.Answers.{listed_as}
 use Rattle.register.specs.declared.settings.Checked.{Checked}
 use Rattle.register.specs.Past.{Entry}
-use Rattle.laws.specs.Operations.{code}
 use Rattle.laws.specs.Laws.{own_messages, span, rounds_of, messages_of}
 use Rattle.laws.proofs.History.{Done, begun, begun_by, spent, spent_by, done}
 use Rattle.laws.proofs.Calls.{At}

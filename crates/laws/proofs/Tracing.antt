@@ -2,7 +2,6 @@
 use Rattle.std.proofs.Common.{List, [], ◌∷◌, ◌++◌, reverse, sym, subst}
 use mathlib.Core.List.{reverse_aux-append}
 use Rattle.register.specs.declared.settings.Checked.{Checked}
-use Rattle.register.specs.State.{opened}
 use Rattle.register.specs.Past.{World, Entry, start, more}
 use Rattle.laws.proofs.Model as model
 use Rattle.laws.proofs.Matching.{params_of, Traced, AllTraced}

@@ -1,8 +1,6 @@
 -- What the tests of settings and values tell.
 use Rattle.std.proofs.Common.{◌≡◌, ◌≤◌, true, ℤ, pos, negsuc, ◌≤ℤ◌, arith}
-use lib.Signed.{le_z, le_z_yes}
 use Rattle.std.proofs.lemmas.Bool.Decides.{nat_tests}
-use Rattle.std.proofs.lemmas.Bool.{and_parts}
 use Rattle.std.proofs.lemmas.Int.{ints}
 use Rattle.orders.specs.declared.settings.Settings.{Settings}
 use Rattle.register.specs.Opening.{in_ranges, value_in_range}

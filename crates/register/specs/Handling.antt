@@ -1,5 +1,5 @@
 -- What a message does: at its replica, or at its client.
-use Rattle.std.specs.Prelude.{ℕ, ◌+◌, ◌-◌, ◌*◌, Bool, true, false, cond, ◌&&◌, ◌||◌, take, ℤ, Some, None, Option, ◌==◌, nat_le, nat_lt, slice_index_or}
+use Rattle.std.specs.Prelude.{ℕ, ◌+◌, ◌-◌, ◌*◌, Bool, false, cond, ◌&&◌, ◌||◌, take, ℤ, Some, None, Option, ◌==◌, nat_le, nat_lt, slice_index_or}
 use Rattle.wire.specs.declared.message.Message.{Message}
 use Rattle.orders.specs.declared.answer.Answer.{Answer}
 use Rattle.orders.specs.declared.answer.Answer.TheVariants.{Replied, Lost, Ignored, Counted, Ended, BecameDue, Dropped}

@@ -1,5 +1,5 @@
 -- What a replica keeps and does.
-use Rattle.std.specs.Prelude.{ℕ, ◌+◌, min, max, Bool, cond, ◌&&◌, ◌||◌, replicate, ℤ, Some, None, Option, ◌==◌, bit_or, nat_le, nat_lt, slice_index, slice_set}
+use Rattle.std.specs.Prelude.{◌+◌, min, max, Bool, cond, ◌||◌, replicate, ℤ, Some, None, Option, ◌==◌, bit_or, nat_le, nat_lt, slice_index, slice_set}
 use Rattle.wire.specs.declared.message.Message.{Message}
 use Rattle.replica.specs.declared.row.Row.{Row}
 use Rattle.replica.specs.declared.record.Replica.{Replica}

@@ -1,7 +1,6 @@
 -- What a session and a listing make of a desk.
-use Rattle.std.proofs.Common.{◌≡◌, ℕ, List, take, drop, Ok, Err, Result, sym, subst}
+use Rattle.std.proofs.Common.{◌≡◌, ℕ, take, drop, Err, Result, sym, subst}
 use Rattle.orders.specs.declared.settings.Settings.{Settings}
-use Rattle.orders.specs.declared.answer.Answer.{Answer}
 use Rattle.register.specs.declared.register.Register.{Register}
 use Rattle.register.specs.Past.{world}
 use Rattle.laws.specs.Performing.{LawfulSession}
@@ -10,7 +9,7 @@ use Rattle.sheet.specs.Shown.{shown}
 use Rattle.sheet.specs.Listing.{Written, CutShort}
 use Rattle.runner.specs.declared.fault.DrillFault.{DrillFault}
 use Rattle.runner.specs.declared.fault.DrillFault.TheVariants.{Sheet}
-use Rattle.runner.specs.Drill.{Desk, Played, Listed, Unlisted, Plays}
+use Rattle.runner.specs.Drill.{Desk, Played, Listed, Plays}
 
 pub played : (s : Settings) (count m j : ℕ) (before after : Desk) (x : Register) → m ≡ count → j ≡ count
     → LawfulSession s before.waiting before.places (take m before.orders) (take j after.answers) (world x after.waiting after.places)

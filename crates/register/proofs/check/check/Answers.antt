@@ -10,4 +10,4 @@ invariant_of-result g c =
     let r = ranges_hold s h in
     let z : ℤ = to_z w32 (of_z w32 s.initial) in
     let v : value_in_range z ≡ true = sym c.if-not-value_in_range.ensures in
-    (r.replicas, (r.tolerated, (r.groups, (r.readers, (omega arith, (value_holds z v, tt))))))
+    record { replicated = r.replicas; tolerant = r.tolerated; grouped = r.groups; read = r.readers; overlap = omega arith; valued = value_holds z v }

@@ -1,4 +1,4 @@
-use Rattle.std.proofs.Common.{◌≡◌, List, length, take, subst}
+use Rattle.std.proofs.Common.{length, take, subst}
 use Rattle.register.specs.declared.register.Register.{Register}
 use Rattle.register.specs.Past.{World, world, Ran}
 use Rattle.register.proofs.session.open_and_run.Goals as goal

@@ -35,4 +35,4 @@ pub returns : goal.returns
 returns c =
     let all : take c.loop-a.a-index c.args.answers.now ≡ c.args.answers.now = take_all c.loop-a.a-index c.args.answers.now c.loop-a-test.false in
     let h : Holds c.loop-a.out c.loop-a.at.len (listing_of c.args.answers.now) = simp all at c.loop-a.invariant in
-    record { length-told = h.0; length-kept = search rules; fits = h.1; bytes = h.2 }
+    record { length_told = h.0; length_kept = search rules; fits = h.1; bytes = h.2 }

@@ -1,5 +1,4 @@
-use Rattle.std.proofs.Common.{◌≡◌, ◌<◌, ◌≤◌, length, pos, refl, ◌∙◌, arith}
-use mathlib.Core.Path.{subst⁻¹}
+use Rattle.std.proofs.Common.{◌≡◌, ◌<◌, ◌≤◌, length, pos, refl, arith}
 use Rattle.std.proofs.lemmas.List.{take_all}
 use Rattle.orders.specs.declared.order.Order.TheVariants.{Write}
 use Rattle.register.proofs.Runs.{ran_none, ran_next, rest_more}

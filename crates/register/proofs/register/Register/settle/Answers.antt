@@ -1,4 +1,4 @@
-use Rattle.std.proofs.Common.{◌≡◌, ◌<◌, length, take, replicate, refl, arith}
+use Rattle.std.proofs.Common.{◌<◌, length, refl, arith}
 use Rattle.std.proofs.lemmas.List.{nil_from_length, replicate_more, take_more_set}
 use Rattle.orders.specs.declared.order.Order.TheVariants.{Carry}
 use Rattle.register.proofs.Runs.{ran_none, ran_more, rest_more}

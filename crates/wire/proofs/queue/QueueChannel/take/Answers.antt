@@ -1,4 +1,4 @@
-use Rattle.std.proofs.Common.{arith, rules}
+use Rattle.std.proofs.Common.{arith}
 use Rattle.wire.proofs.Rings.{ring_pop}
 use Rattle.wire.proofs.Shuffles.{same_list}
 use Rattle.std.proofs.lemmas.List.{get_or_default}
