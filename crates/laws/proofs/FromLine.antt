@@ -1,4 +1,4 @@
--- One line of the operations of a past, from the line of the model's calls. It ends in from-line.
+-- One line of the operations of a past, from the line of the model's calls. It ends in `from_line`.
 use Rattle.std.proofs.Common.{◌≡◌, ℕ, zero, suc, ◌≤◌, Bool, true, false, ◌⊎◌, List, [], ◌∷◌, map, ℤ, Some, None, Option, sym, refl, ap, ◌∙◌, subst, inl, inr, arith}
 use Rattle.std.specs.List.{ContainsAt as Has, AllByRecursion}
 use Rattle.std.proofs.ByRecursion.{All-weaker, all-has, All-map, all_has_itself}

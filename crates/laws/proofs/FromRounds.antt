@@ -1,4 +1,4 @@
--- The rounds of the operations of a past, from those of the model's calls. It ends in from-rounds.
+-- The rounds of the operations of a past, from those of the model's calls. It ends in `from_rounds`.
 use Rattle.std.proofs.Common.{◌≡◌, ℕ, zero, suc, ◌+◌, ◌*◌, ◌<◌, ◌≤◌, ◌⊎◌, List, Some, Option, sym, ◌∙◌, subst, inl, inr, arith}
 use Rattle.std.specs.List.{ContainsAt as Has, AllByRecursion}
 use Rattle.std.proofs.ByRecursion.{all-has}

@@ -1,4 +1,4 @@
--- AllByRecursion calls of a past stand in one line: ends in `linearizable`.
+-- All calls of a past stand in one line: ends in `linearizable`.
 use Rattle.std.proofs.Common.{◌≡◌, ℕ, suc, ◌<◌, ◌≤◌, false, ◌⊎◌, List, [], ◌∷◌, length, ℤ, sym, refl, ap, ◌∙◌, subst, inl, inr, arith}
 use Rattle.std.proofs.ByRecursion.{all-has, all_has_itself, All-weaker}
 use Rattle.std.proofs.lemmas.Bool.{cases_eq, cases_lt, cond-false, ne_eqb}
@@ -227,6 +227,6 @@ module _ (g : Params) (fit : Fit g) (f : ℤ) (log : List Entry) (b : State) (p 
         ]
       ]
 
--- AllByRecursion calls of every past stand in one line.
+-- All calls of every past stand in one line.
 pub linearizable : Linearizable
 linearizable g fit f log b p = the_line g fit f log b p

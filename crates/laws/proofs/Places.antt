@@ -1,4 +1,4 @@
--- Places: the entries oldest first and the log newest first have the same entry at each place, so operations begin and end at the same places. It ends in begins-log, next-log, next-told, write-at and read_at.
+-- Places: the entries oldest first and the log newest first have the same entry at each place, so operations begin and end at the same places. It ends in `begins_log`, `next_log`, `next_told`, `write_at` and `read_at`.
 use Rattle.std.proofs.Common.{◌≡◌, ℕ, zero, suc, ◌<◌, ◌⊎◌, List, [], ◌∷◌, ◌++◌, reverse, length, ℤ, sym, refl, ap, ◌∙◌, subst, inl, inr, arith}
 use mathlib.Core.List.{reverse-cons, reverse-reverse}
 use Rattle.std.specs.List.{AllByRecursion}

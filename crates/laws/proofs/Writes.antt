@@ -1,4 +1,4 @@
--- The accepted writes of a log: the nth has n - 1 before it and the value of version n, and one place. It ends in write-no, write-number, write-order, write-place and last-write.
+-- The accepted writes of a log: the nth has n - 1 before it and the value of version n, and one place. It ends in `write_no`, `write_number`, `write_order`, `write_place` and `last_write`.
 use Rattle.std.proofs.Common.{◌≡◌, ℕ, suc, ◌+◌, ◌<◌, ◌≤◌, true, false, cond, ◌&&◌, eqb, ◌⊎◌, List, [], ◌∷◌, length, ℤ, count_by, sym, refl, ap, ◌∙◌, subst, inl, inr, arith}
 use Rattle.std.specs.List.{AllByRecursion}
 use Rattle.std.proofs.lemmas.List.{take-append-le, take_at}

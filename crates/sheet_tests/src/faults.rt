@@ -1,102 +1,77 @@
 // Sheets that are refused.
 use orders::order::Order;
 use sheet::read::read;
-use std::process::Abort;
 use std::test::Fail;
 
 // The fault of a sheet for which two places are handed in.
-fn refused(rt: &impl Abort, sheet: &[u8], number: u32, line: u32, word: &[u8]) -> Result<(), Fail> {
+fn refused(sheet: &[u8], number: u32, line: u32, word: &[u8]) -> Result<(), Fail> {
     let mut orders = [Order::Carry; 2];
     match read(sheet, &mut orders) {
         Ok(_) => Err(Fail::new("the sheet was read")),
         Err(fault) => {
-            assert_eq!(rt; fault.number(), number);
-            assert_eq!(rt; fault.line(), line);
-            assert!(rt; fault.word() == word);
+            if fault.number() != number {
+                return Err(Fail::new("another number"));
+            }
+            if fault.line() != line {
+                return Err(Fail::new("another line"));
+            }
+            if fault.word() != word {
+                return Err(Fail::new("another word"));
+            }
             Ok(())
         }
     }
 }
 
 #[test]
-fn form_of_words(rt: HostRuntime) -> Result<(), Fail> {
-    refused(&rt, b"setti", 31, 1, b"setti")?;
-    refused(&rt, b"settings 6\n", 31, 1, b"6")?;
-    refused(&rt, b"settings 5\n5 01 1 2 0\n", 31, 2, b"01")?;
-    refused(&rt, b"settings 5\n5 -1 1 2 0\n", 31, 2, b"-1")?;
-    refused(&rt, b"settings 5\n5 1 1 2 -0\n", 31, 2, b"-0")?;
-    refused(&rt, b"settings 5\n5 1 1 2 +1\n", 31, 2, b"+1")?;
-    refused(
-        &rt,
-        b"settings 5\n5 0999999999 1 2 0\n",
-        31,
-        2,
-        b"0999999999",
-    )?;
-    refused(&rt, b"settings 5\n5 1 1 2 0\r\norders 0\n", 31, 2, b"0\r")?;
-    refused(&rt, b"settings 5\n5  1 2 0\n", 31, 2, b"")
+fn form_of_words() -> Result<(), Fail> {
+    refused(b"setti", 31, 1, b"setti")?;
+    refused(b"settings 6\n", 31, 1, b"6")?;
+    refused(b"settings 5\n5 01 1 2 0\n", 31, 2, b"01")?;
+    refused(b"settings 5\n5 -1 1 2 0\n", 31, 2, b"-1")?;
+    refused(b"settings 5\n5 1 1 2 -0\n", 31, 2, b"-0")?;
+    refused(b"settings 5\n5 1 1 2 +1\n", 31, 2, b"+1")?;
+    refused(b"settings 5\n5 0999999999 1 2 0\n", 31, 2, b"0999999999")?;
+    refused(b"settings 5\n5 1 1 2 0\r\norders 0\n", 31, 2, b"0\r")?;
+    refused(b"settings 5\n5  1 2 0\n", 31, 2, b"")
 }
 
 #[test]
-fn form_of_orders(rt: HostRuntime) -> Result<(), Fail> {
-    refused(
-        &rt,
-        b"settings 5\n5 1 1 2 0\norders 1\nr -1\n",
-        31,
-        4,
-        b"-1",
-    )?;
-    refused(&rt, b"settings 5\n5 1 1 2 0\norders 1\nt\n", 31, 4, b"t")?;
-    refused(
-        &rt,
-        b"settings 5\n5 1 1 2 0\norders 2\nc\ncc\n",
-        31,
-        5,
-        b"cc",
-    )?;
-    refused(&rt, b"settings 5\n5 1 1 2 0\norders 1\nw1\n", 31, 4, b"w1")
+fn form_of_orders() -> Result<(), Fail> {
+    refused(b"settings 5\n5 1 1 2 0\norders 1\nr -1\n", 31, 4, b"-1")?;
+    refused(b"settings 5\n5 1 1 2 0\norders 1\nt\n", 31, 4, b"t")?;
+    refused(b"settings 5\n5 1 1 2 0\norders 2\nc\ncc\n", 31, 5, b"cc")?;
+    refused(b"settings 5\n5 1 1 2 0\norders 1\nw1\n", 31, 4, b"w1")
 }
 
 #[test]
-fn separators(rt: HostRuntime) -> Result<(), Fail> {
-    refused(&rt, b"settings\n5\n", 31, 1, b"settings")?;
-    refused(&rt, b"settings 5\n5 1 1 2 0 \n", 31, 2, b"0")?;
-    refused(&rt, b"settings 5\n5 1 1 2 0\norders 1\nc 1\n", 31, 4, b"c")?;
-    refused(&rt, b"settings 5\n5 1 1 2 0\norders 1\nw\n", 31, 4, b"w")
+fn separators() -> Result<(), Fail> {
+    refused(b"settings\n5\n", 31, 1, b"settings")?;
+    refused(b"settings 5\n5 1 1 2 0 \n", 31, 2, b"0")?;
+    refused(b"settings 5\n5 1 1 2 0\norders 1\nc 1\n", 31, 4, b"c")?;
+    refused(b"settings 5\n5 1 1 2 0\norders 1\nw\n", 31, 4, b"w")
 }
 
 #[test]
-fn limits(rt: HostRuntime) -> Result<(), Fail> {
-    refused(&rt, b"settings 5\n100000000 1 1 2 0\n", 32, 2, b"100000000")?;
-    refused(
-        &rt,
-        b"settings 5\n5 1 1 2 -100000000\n",
-        32,
-        2,
-        b"-100000000",
-    )?;
-    refused(&rt, b"settings 5\n5 1 1 2 0\norders 4097\n", 32, 3, b"4097")
+fn limits() -> Result<(), Fail> {
+    refused(b"settings 5\n100000000 1 1 2 0\n", 32, 2, b"100000000")?;
+    refused(b"settings 5\n5 1 1 2 -100000000\n", 32, 2, b"-100000000")?;
+    refused(b"settings 5\n5 1 1 2 0\norders 4097\n", 32, 3, b"4097")
 }
 
 #[test]
-fn ends(rt: HostRuntime) -> Result<(), Fail> {
-    refused(&rt, b"", 33, 1, b"")?;
-    refused(&rt, b"settings", 33, 1, b"")?;
-    refused(&rt, b"settings 5\n", 33, 2, b"")?;
-    refused(&rt, b"settings 5\n5 1 1 2 0\norders 2\nc\n", 33, 5, b"")?;
-    refused(&rt, b"settings 5\n5 1 1 2 0\norders 1\nb 1", 33, 4, b"")
+fn ends() -> Result<(), Fail> {
+    refused(b"", 33, 1, b"")?;
+    refused(b"settings", 33, 1, b"")?;
+    refused(b"settings 5\n", 33, 2, b"")?;
+    refused(b"settings 5\n5 1 1 2 0\norders 2\nc\n", 33, 5, b"")?;
+    refused(b"settings 5\n5 1 1 2 0\norders 1\nb 1", 33, 4, b"")
 }
 
 #[test]
-fn surplus_and_places(rt: HostRuntime) -> Result<(), Fail> {
-    refused(
-        &rt,
-        b"settings 5\n5 1 1 2 0\norders 1\nc\nc\n",
-        34,
-        5,
-        b"c\n",
-    )?;
-    refused(&rt, b"settings 5\n5 1 1 2 0\norders 0\n\n", 34, 4, b"\n")?;
-    refused(&rt, b"settings 5\n5 1 1 2 0\norders 3 ", 35, 3, b"3")?;
-    refused(&rt, b"settings 5\n5 1 1 2 0\norders 3", 35, 3, b"3")
+fn surplus_and_places() -> Result<(), Fail> {
+    refused(b"settings 5\n5 1 1 2 0\norders 1\nc\nc\n", 34, 5, b"c\n")?;
+    refused(b"settings 5\n5 1 1 2 0\norders 0\n\n", 34, 4, b"\n")?;
+    refused(b"settings 5\n5 1 1 2 0\norders 3 ", 35, 3, b"3")?;
+    refused(b"settings 5\n5 1 1 2 0\norders 3", 35, 3, b"3")
 }
