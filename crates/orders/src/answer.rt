@@ -3,7 +3,7 @@ ghost use Rattle.std.specs.Prelude.{◌≡◌};
 ghost use Rattle.orders.specs.Answers.{number_of, listed_as, bare_of};
 
 // Why a call was sent back.
-#[derive(Clone, Copy)]
+#[derive(Debug, Clone, Copy, PartialEq, Eq)]
 pub enum Refusal {
     // no such reader, replica or client
     Unknown,
@@ -28,7 +28,7 @@ pub enum Refusal {
 }
 
 // An ended write or read, with what it shows.
-#[derive(Clone, Copy)]
+#[derive(Debug, Clone, Copy, PartialEq, Eq)]
 pub struct Ending {
     pub client: u8,
     pub version: u32,
@@ -36,7 +36,7 @@ pub struct Ending {
     pub rounds: u8,
 }
 
-#[derive(Clone, Copy)]
+#[derive(Debug, Clone, Copy, PartialEq, Eq)]
 pub enum Answer {
     // the call was accepted; for a write 0, else the number given
     Accepted(u32),
@@ -59,7 +59,7 @@ pub enum Answer {
 }
 
 // An answer as a listing shows it.
-#[derive(Clone, Copy)]
+#[derive(Debug, Clone, Copy, PartialEq, Eq)]
 pub struct Listed {
     pub code: u32,
     pub who: u32,

@@ -1,5 +1,5 @@
 // The six calls that a register takes, as orders with numbers as they are given.
-#[derive(Clone, Copy)]
+#[derive(Debug, Clone, Copy, PartialEq, Eq)]
 pub enum Order {
     // the writer begins to write a value
     Write(i32),

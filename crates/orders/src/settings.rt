@@ -1,5 +1,5 @@
 // Settings as they are given, of any size: nothing is checked yet.
-#[derive(Clone, Copy)]
+#[derive(Debug, Clone, Copy, PartialEq, Eq)]
 pub struct Settings {
     // S: how many replicas hold a copy
     pub replicas: u32,

@@ -9,7 +9,7 @@ use crate::settings::Checked;
 use orders::answer::{Answer, Ending};
 use quorum::decide::{Decided, Verdict, decide};
 use quorum::slip::{Reading, Receipt};
-use wire::kind::{Kind, named};
+use wire::kind::Kind;
 use wire::message::Message;
 
 fn receipt(m: Message) -> Receipt
@@ -48,10 +48,10 @@ impl Phase {
         ensures said { result ≡ (m.kind == awaited self.old && uncounted self.old m) }
         ensures after { self.new ≡ (if result then joined self.old m else self.old) }
     {
-        match (self, named(m.kind)) {
-            (Phase::Writing(receipts), Some(Kind::WriteReply)) => receipts.add(receipt(m)),
-            (Phase::Asking(readings), Some(Kind::ReadReply)) => readings.add(reading(m)),
-            (Phase::Telling(receipts), Some(Kind::TellReply)) => receipts.add(receipt(m)),
+        match (self, Kind::try_from(m.kind)) {
+            (Phase::Writing(receipts), Ok(Kind::WriteReply)) => receipts.add(receipt(m)),
+            (Phase::Asking(readings), Ok(Kind::ReadReply)) => readings.add(reading(m)),
+            (Phase::Telling(receipts), Ok(Kind::TellReply)) => receipts.add(receipt(m)),
             _ => false,
         }
     }

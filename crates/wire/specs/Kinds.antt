@@ -1,6 +1,7 @@
 -- The numbers of the kinds of message.
-use Rattle.std.specs.Prelude.{ℕ, cond, Some, None, Option, ◌==◌}
+use Rattle.std.specs.Prelude.{◌≡◌, ℕ, cond, Some, None, Option, Result, MatchResult, ◌==◌}
 use Rattle.wire.specs.declared.kind.Kind.{Kind}
+use Rattle.wire.specs.declared.kind.UnknownKind.{UnknownKind}
 use Rattle.wire.specs.declared.kind.Kind.TheVariants.{Write, Read, Tell, WriteReply, ReadReply, TellReply}
 
 -- the kind that a number names
@@ -12,3 +13,16 @@ kind_of n =
     (cond (n == 4) (Some WriteReply)
     (cond (n == 5) (Some ReadReply)
     (cond (n == 6) (Some TellReply) None)))))
+
+-- the number of a kind
+abbrev pub number_of : Kind → ℕ
+number_of Write = 1
+number_of Read = 2
+number_of Tell = 3
+number_of WriteReply = 4
+number_of ReadReply = 5
+number_of TellReply = 6
+
+-- A number is turned into the kind that it names, or handed back where it names none.
+abbrev pub Named : ℕ → Result Kind UnknownKind → Type 0
+Named n r = MatchResult r (λ k. kind_of n ≡ Some k) (λ e. (kind_of n ≡ None) × (e.0 ≡ n))

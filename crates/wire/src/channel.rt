@@ -6,7 +6,7 @@ ghost use Rattle.wire.specs.Channel.{Put, Taken};
 use crate::message::Message;
 
 // No place was free.
-#[derive(Clone, Copy)]
+#[derive(Debug, Clone, Copy, PartialEq, Eq)]
 pub struct Full;
 
 // A channel means the messages that wait in it, in no order but counted, and its free places.

@@ -1,8 +1,9 @@
-// The six kinds of message, by name.
-ghost use Rattle.std.specs.Prelude.{◌≡◌};
-ghost use Rattle.wire.specs.Kinds.{kind_of};
+//! The six kinds of message, by name and by number.
+ghost use Rattle.std.specs.Prelude.{◌≡◌, ◌+◌, nat_le};
+ghost use Rattle.wire.specs.Kinds.{kind_of, number_of, Named};
 
-#[derive(Clone, Copy)]
+/// What a message is about: 1 to 3 ask a replica, 4 to 6 are its replies to a client.
+#[derive(Debug, Clone, Copy, PartialEq, Eq)]
 pub enum Kind {
     Write,
     Read,
@@ -12,17 +13,60 @@ pub enum Kind {
     TellReply,
 }
 
-// The kind that a number names; none for a number outside 1 to 6.
-pub fn named(number: u8) -> Option<Kind>
-    ensures { result ≡ kind_of number }
-{
-    match number {
-        1 => Some(Kind::Write),
-        2 => Some(Kind::Read),
-        3 => Some(Kind::Tell),
-        4 => Some(Kind::WriteReply),
-        5 => Some(Kind::ReadReply),
-        6 => Some(Kind::TellReply),
-        _ => None,
+/// A number that names no kind.
+#[derive(Debug, Clone, Copy, PartialEq, Eq)]
+pub struct UnknownKind(pub u8);
+
+impl TryFrom<u8> for Kind {
+    type Error = UnknownKind;
+
+    ghost try_from_gives = { Named };
+
+    fn try_from(number: u8) -> Result<Self, UnknownKind> {
+        match number {
+            1 => Ok(Kind::Write),
+            2 => Ok(Kind::Read),
+            3 => Ok(Kind::Tell),
+            4 => Ok(Kind::WriteReply),
+            5 => Ok(Kind::ReadReply),
+            6 => Ok(Kind::TellReply),
+            _ => Err(UnknownKind(number)),
+        }
+    }
+}
+
+impl From<Kind> for u8 {
+    ghost from_gives = { λ k n. n ≡ number_of k };
+
+    fn from(kind: Kind) -> u8 {
+        match kind {
+            Kind::Write => 1,
+            Kind::Read => 2,
+            Kind::Tell => 3,
+            Kind::WriteReply => 4,
+            Kind::ReadReply => 5,
+            Kind::TellReply => 6,
+        }
+    }
+}
+
+impl Kind {
+    /// Does a message of this kind go to a replica?
+    pub fn is_request(self) -> bool
+        ensures { result ≡ nat_le (number_of self) 3 }
+    {
+        matches!(self, Kind::Write | Kind::Read | Kind::Tell)
+    }
+
+    /// The kind of a replica's reply; a reply has none.
+    pub fn reply(self) -> Option<Kind>
+        ensures { result ≡ kind_of (number_of self + 3) }
+    {
+        match self {
+            Kind::Write => Some(Kind::WriteReply),
+            Kind::Read => Some(Kind::ReadReply),
+            Kind::Tell => Some(Kind::TellReply),
+            Kind::WriteReply | Kind::ReadReply | Kind::TellReply => None,
+        }
     }
 }

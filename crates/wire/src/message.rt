@@ -2,7 +2,7 @@
 
 // One message. Kinds 1 to 3 (write, read, tell) go to the replica, kinds 4 to 6 (their replies) to
 // the client; any other kind goes nowhere. Nothing is promised of the fields: a channel takes any.
-#[derive(Clone, Copy)]
+#[derive(Debug, Clone, Copy, PartialEq, Eq, Default)]
 pub struct Message {
     pub kind: u8,
     pub replica: u8,
