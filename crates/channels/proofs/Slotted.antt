@@ -7,7 +7,7 @@ use Rattle.std.proofs.lemmas.Bool.{cases_lt}
 use Rattle.std.proofs.lemmas.Bool.Decides.{nat_tests}
 use Rattle.wire.specs.declared.message.Message.{Message}
 use Rattle.channels.specs.Slots.{somes, gaps, lower, NoLower, Found, pick}
-use Rattle.wire.proofs.Shuffles.{two_front}
+use Rattle.std.proofs.lemmas.List.Sorted.{IsPermutation-middle}
 
 module _ {M : Type 0} where
   gaps_append : (xs ys : List (Option M)) → gaps (xs ++ ys) ≡ gaps xs + gaps ys
@@ -41,7 +41,7 @@ module _ {M : Type 0} where
       (r.0, omega (arith, r.1))
   slot_filled (Some x ∷ xs) (suc i) m h e =
       let r : IsPermutation (somes (set xs i (Some m))) (m ∷ somes xs) × (gaps xs ≡ gaps (set xs i (Some m)) + 1) = slot_filled xs i m (le_of_suc-le-suc h) e in
-      (IsPermutation-trans _ _ _ (IsPermutation-cons x _ _ r.0) (two_front x m (somes xs)), r.1)
+      (IsPermutation-trans _ _ _ (IsPermutation-cons x _ _ r.0) (IsPermutation-middle (x ∷ []) m (somes xs)), r.1)
 
   -- a message taken out of its slot
   pub slot_freed : (xs : List (Option M)) (i : ℕ) (m : M) → i < length xs → get_or xs i None ≡ Some m → IsPermutation (somes xs) (m ∷ somes (set xs i None)) × (gaps (set xs i None) ≡ gaps xs + 1)
@@ -53,7 +53,7 @@ module _ {M : Type 0} where
       (r.0, omega (arith, r.1))
   slot_freed (Some x ∷ xs) (suc i) m h e =
       let r : IsPermutation (somes xs) (m ∷ somes (set xs i None)) × (gaps (set xs i None) ≡ gaps xs + 1) = slot_freed xs i m (le_of_suc-le-suc h) e in
-      (IsPermutation-trans _ _ _ (IsPermutation-cons x _ _ r.0) (two_front x m (somes (set xs i None))), r.1)
+      (IsPermutation-trans _ _ _ (IsPermutation-cons x _ _ r.0) (IsPermutation-middle (x ∷ []) m (somes (set xs i None))), r.1)
 
   pub none_held : (xs : List (Option M)) → ((k : ℕ) → k < length xs → get_or xs k None ≡ None) → somes xs ≡ []
   none_held [] h = refl
