@@ -1,20 +1,9 @@
-use Rattle.std.proofs.Common.{◌≡◌, ◌+◌, List, ◌∷◌, Option, refl}
-use mathlib.Core.Path.{subst⁻¹}
-use Rattle.std.specs.List.Sorted.{IsPermutation}
-use Rattle.wire.specs.declared.message.Message.{Message}
-use Rattle.channels.specs.Slots.{somes, gaps}
+use Rattle.std.proofs.Common.{refl}
 use Rattle.channels.proofs.Slotted.{slot_freed, none_held}
 use Rattle.channels.proofs.slots.SlotsChannel.take.Goals as goal
 
-pub returns-in_default : goal.returns-in_default
-returns-in_default c = let e = none_held c.args.self.now.table c.in_default.ensures in record { meets = (e, e, refl); lowest = tt }
+pub returns-in_err-i-clause-meets : goal.returns-in_err-i-clause-meets
+returns-in_err-i-clause-meets c = let e = none_held c.args.self.now.table c.in_err-i.ensures in rw c.from_residual.ensures (e, e, refl)
 
-pub returns : goal.returns
-returns c =
-    let h = c.in-Some.ensures in
-    let t = c.args.self.now.table in
-    let m = c.in-Some.m in
-    record {
-      meets = subst⁻¹ (λ (u : List (Option Message)). IsPermutation (somes t) (m ∷ somes u) × (gaps u ≡ gaps t + 1)) c.clear.ensures (slot_freed t c.in-Some.i m h.0 h.1);
-      lowest = h.2;
-    }
+pub returns-clause-meets : goal.returns-clause-meets
+returns-clause-meets c = let h = c.in_ok-i.ensures in slot_freed c.args.self.now.table c.in_ok-i.i c.in_ok-i.m h.0 h.1
