@@ -38,7 +38,7 @@ module _ {M : Type 0} where
   pub slot_filled : (xs : List (Option M)) (i : ℕ) (m : M) → i < length xs → get_or xs i None ≡ None → IsPermutation (somes (set xs i (Some m))) (m ∷ somes xs) × (gaps xs ≡ gaps (set xs i (Some m)) + 1)
   slot_filled [] i m h e = absurd (not-suc-le-zero h)
   slot_filled (None ∷ xs) zero m h e = (IsPermutation-refl _, omega arith)
-  slot_filled (Some x ∷ xs) zero m h e = let z : ◌≡◌ {A = ℕ} 0 1 = cc in absurd (omega arith)
+  slot_filled (Some x ∷ xs) zero m h e = cc
   slot_filled (None ∷ xs) (suc i) m h e =
       let r : IsPermutation (somes (set xs i (Some m))) (m ∷ somes xs) × (gaps xs ≡ gaps (set xs i (Some m)) + 1) = slot_filled xs i m (le_of_suc-le-suc h) e in
       (r.0, omega (arith, r.1))
@@ -49,7 +49,7 @@ module _ {M : Type 0} where
   -- a message taken out of its slot
   pub slot_freed : (xs : List (Option M)) (i : ℕ) (m : M) → i < length xs → get_or xs i None ≡ Some m → IsPermutation (somes xs) (m ∷ somes (set xs i None)) × (gaps (set xs i None) ≡ gaps xs + 1)
   slot_freed [] i m h e = absurd (not-suc-le-zero h)
-  slot_freed (None ∷ xs) zero m h e = let z : ◌≡◌ {A = ℕ} 0 1 = cc in absurd (omega arith)
+  slot_freed (None ∷ xs) zero m h e = cc
   slot_freed (Some x ∷ xs) zero m h e = let same : x ≡ m = cc in (rw same (IsPermutation-refl _), omega arith)
   slot_freed (None ∷ xs) (suc i) m h e =
       let r : IsPermutation (somes xs) (m ∷ somes (set xs i None)) × (gaps (set xs i None) ≡ gaps xs + 1) = slot_freed xs i m (le_of_suc-le-suc h) e in
@@ -61,4 +61,4 @@ module _ {M : Type 0} where
   pub none_held : (xs : List (Option M)) → ((k : ℕ) → k < length xs → get_or xs k None ≡ None) → somes xs ≡ []
   none_held [] h = refl
   none_held (None ∷ xs) h = none_held xs (λ k l. h (suc k) (omega arith))
-  none_held (Some x ∷ xs) h = let e = h 0 (omega arith) in let z : ◌≡◌ {A = ℕ} 0 1 = cc in absurd (omega arith)
+  none_held (Some x ∷ xs) h = let e = h 0 (omega arith) in cc

@@ -44,6 +44,7 @@ fn turn_of(slot: &Option<Message>) -> Turn
 }
 
 // The first slot that is unused.
+#[tactic(auto, using(crate::proofs::Slotted::first_unused))]
 fn unused(table: &[Option<Message>]) -> Option<usize>
     ensures { MatchOption result (gaps table.now ≡ 0) (λ i. (i < length table.now) × (slice_index_or table.now i None ≡ None)) }
 {
@@ -90,6 +91,7 @@ impl Channel for Slots {
     }
 
     /// It gives the lowest: none that waited is before it.
+    #[tactic(auto, using(crate::proofs::Slotted::none_held))]
     fn take(&mut self) -> Option<Message>
         ensures meets { Taken (somes self.old.table) (gaps self.old.table) (somes self.new.table) (gaps self.new.table) result }
         ensures lowest { Lowest self.old.table result }
@@ -99,6 +101,7 @@ impl Channel for Slots {
         Some(m)
     }
 
+    #[tactic(auto, using(crate::proofs::Slotted::somes_gaps))]
     fn waiting(&self) -> u32 {
         (256 - count_unused(&self.table)) as u32
     }
