@@ -35,28 +35,34 @@ module _ {M : Type 0} where
   somes_gaps (Some m ∷ xs) = omega (arith, somes_gaps xs)
 
   -- a message put into an unused slot
-  pub slot_filled : (xs : List (Option M)) (i : ℕ) (m : M) → i < length xs → get_or xs i None ≡ None → IsPermutation (somes (set xs i (Some m))) (m ∷ somes xs) × (gaps xs ≡ gaps (set xs i (Some m)) + 1)
-  slot_filled [] i m h e = absurd (not-suc-le-zero h)
-  slot_filled (None ∷ xs) zero m h e = (IsPermutation-refl _, omega arith)
-  slot_filled (Some x ∷ xs) zero m h e = cc
-  slot_filled (None ∷ xs) (suc i) m h e =
-      let r : IsPermutation (somes (set xs i (Some m))) (m ∷ somes xs) × (gaps xs ≡ gaps (set xs i (Some m)) + 1) = slot_filled xs i m (le_of_suc-le-suc h) e in
-      (r.0, omega (arith, r.1))
-  slot_filled (Some x ∷ xs) (suc i) m h e =
-      let r : IsPermutation (somes (set xs i (Some m))) (m ∷ somes xs) × (gaps xs ≡ gaps (set xs i (Some m)) + 1) = slot_filled xs i m (le_of_suc-le-suc h) e in
-      (IsPermutation-trans _ _ _ (IsPermutation-cons x _ _ r.0) (IsPermutation-middle (x ∷ []) m (somes xs)), r.1)
+  pub filled_holds : (xs : List (Option M)) (i : ℕ) (m : M) → i < length xs → get_or xs i None ≡ None → IsPermutation (somes (set xs i (Some m))) (m ∷ somes xs)
+  filled_holds [] i m h e = absurd (not-suc-le-zero h)
+  filled_holds (None ∷ xs) zero m h e = IsPermutation-refl _
+  filled_holds (Some x ∷ xs) zero m h e = cc
+  filled_holds (None ∷ xs) (suc i) m h e = filled_holds xs i m (le_of_suc-le-suc h) e
+  filled_holds (Some x ∷ xs) (suc i) m h e = IsPermutation-trans _ _ _ (IsPermutation-cons x _ _ (filled_holds xs i m (le_of_suc-le-suc h) e)) (IsPermutation-middle (x ∷ []) m (somes xs))
+
+  pub filled_leaves : (xs : List (Option M)) (i : ℕ) (m : M) → i < length xs → get_or xs i None ≡ None → gaps xs ≡ gaps (set xs i (Some m)) + 1
+  filled_leaves [] i m h e = absurd (not-suc-le-zero h)
+  filled_leaves (None ∷ xs) zero m h e = omega arith
+  filled_leaves (Some x ∷ xs) zero m h e = cc
+  filled_leaves (None ∷ xs) (suc i) m h e = omega (arith, filled_leaves xs i m (le_of_suc-le-suc h) e)
+  filled_leaves (Some x ∷ xs) (suc i) m h e = filled_leaves xs i m (le_of_suc-le-suc h) e
 
   -- a message taken out of its slot
-  pub slot_freed : (xs : List (Option M)) (i : ℕ) (m : M) → i < length xs → get_or xs i None ≡ Some m → IsPermutation (somes xs) (m ∷ somes (set xs i None)) × (gaps (set xs i None) ≡ gaps xs + 1)
-  slot_freed [] i m h e = absurd (not-suc-le-zero h)
-  slot_freed (None ∷ xs) zero m h e = cc
-  slot_freed (Some x ∷ xs) zero m h e = let same : x ≡ m = cc in (rw same (IsPermutation-refl _), omega arith)
-  slot_freed (None ∷ xs) (suc i) m h e =
-      let r : IsPermutation (somes xs) (m ∷ somes (set xs i None)) × (gaps (set xs i None) ≡ gaps xs + 1) = slot_freed xs i m (le_of_suc-le-suc h) e in
-      (r.0, omega (arith, r.1))
-  slot_freed (Some x ∷ xs) (suc i) m h e =
-      let r : IsPermutation (somes xs) (m ∷ somes (set xs i None)) × (gaps (set xs i None) ≡ gaps xs + 1) = slot_freed xs i m (le_of_suc-le-suc h) e in
-      (IsPermutation-trans _ _ _ (IsPermutation-cons x _ _ r.0) (IsPermutation-middle (x ∷ []) m (somes (set xs i None))), r.1)
+  pub freed_holds : (xs : List (Option M)) (i : ℕ) (m : M) → i < length xs → get_or xs i None ≡ Some m → IsPermutation (somes xs) (m ∷ somes (set xs i None))
+  freed_holds [] i m h e = absurd (not-suc-le-zero h)
+  freed_holds (None ∷ xs) zero m h e = cc
+  freed_holds (Some x ∷ xs) zero m h e = let same : x ≡ m = cc in rw same (IsPermutation-refl _)
+  freed_holds (None ∷ xs) (suc i) m h e = freed_holds xs i m (le_of_suc-le-suc h) e
+  freed_holds (Some x ∷ xs) (suc i) m h e = IsPermutation-trans _ _ _ (IsPermutation-cons x _ _ (freed_holds xs i m (le_of_suc-le-suc h) e)) (IsPermutation-middle (x ∷ []) m (somes (set xs i None)))
+
+  pub freed_leaves : (xs : List (Option M)) (i : ℕ) (m : M) → i < length xs → get_or xs i None ≡ Some m → gaps (set xs i None) ≡ gaps xs + 1
+  freed_leaves [] i m h e = absurd (not-suc-le-zero h)
+  freed_leaves (None ∷ xs) zero m h e = cc
+  freed_leaves (Some x ∷ xs) zero m h e = omega arith
+  freed_leaves (None ∷ xs) (suc i) m h e = omega (arith, freed_leaves xs i m (le_of_suc-le-suc h) e)
+  freed_leaves (Some x ∷ xs) (suc i) m h e = freed_leaves xs i m (le_of_suc-le-suc h) e
 
   pub none_held : (xs : List (Option M)) → ((k : ℕ) → k < length xs → get_or xs k None ≡ None) → somes xs ≡ []
   none_held [] h = refl

@@ -84,6 +84,7 @@ impl Channel for Slots {
 
     ghost places = { λ s. gaps s.table };
 
+    #[tactic(auto, using(crate::proofs::Slotted::filled_holds, crate::proofs::Slotted::filled_leaves))]
     fn put(&mut self, m: Message) -> Result<(), Full> {
         let i = unused(&self.table).ok_or(Full)?;
         self.table[i] = Some(m);
@@ -91,7 +92,7 @@ impl Channel for Slots {
     }
 
     /// It gives the lowest: none that waited is before it.
-    #[tactic(auto, using(crate::proofs::Slotted::none_held))]
+    #[tactic(auto, using(crate::proofs::Slotted::none_held, crate::proofs::Slotted::freed_holds, crate::proofs::Slotted::freed_leaves))]
     fn take(&mut self) -> Option<Message>
         ensures meets { Taken (somes self.old.table) (gaps self.old.table) (somes self.new.table) (gaps self.new.table) result }
         ensures lowest { Lowest self.old.table result }
