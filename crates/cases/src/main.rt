@@ -41,7 +41,7 @@ fn choice(head: &[u8]) -> Choice {
 
 // Runs one sheet and adds what is printed for it.
 fn run_case(heap: Global, chosen: Choice, sheet: &[u8], all: &mut Vec<u8>) -> anyhow::Result<()> {
-    let mut cells = vec![in heap; Message::BLANK; 1024]?;
+    let mut cells = vec![in heap; Message::default(); 1024]?;
     let mut orders = vec![in heap; Order::Carry; 4096]?;
     let mut answers = vec![in heap; Answer::Dropped; 4096]?;
     let mut out = vec![in heap; 0u8; 65536]?;

@@ -1,47 +1,44 @@
 -- Two stores side by side, as lists with the same elements: what one takes in or gives, both do.
-use Rattle.std.proofs.Common.{◌≡◌, ℕ, ◌+◌, ◌-◌, ◌≤◌, List, [], ◌∷◌, ◌++◌, length, Some, None, Ok, Err, Option, Result, inr, arith}
+use Rattle.std.proofs.Common.{◌≡◌, ℕ, ◌+◌, ◌-◌, ◌≤◌, List, [], ◌∷◌, ◌++◌, length, Some, None, Ok, Err, Option, Result, slice_get, OnSome, IfNone, is_ok, IsOk, OnOk, OnErr, ap, refl, arith}
+use Rattle.std.specs.Prelude.{◌↔◌, ◌<◌}
+use Rattle.std.specs.List.{remove}
 use Rattle.std.specs.List.Sorted.{IsPermutation}
-use Rattle.std.proofs.lemmas.List.{append-nil, nil_from_length}
-use Rattle.wire.specs.declared.message.Message.{Message}
-use Rattle.wire.specs.Channel.{Put, Taken}
-use Rattle.channels.specs.Delay.{Kept, Entered}
-use Rattle.wire.proofs.Shuffles.{same_list, put_last, shuffled_mid}
-use Rattle.std.proofs.lemmas.List.Sorted.{IsPermutation-cons, IsPermutation-trans, IsPermutation-sym, length_permutation}
+use Rattle.std.proofs.lemmas.List.{length-append, nil_from_length}
+use Rattle.std.proofs.lemmas.List.Sorted.{IsPermutation-append, IsPermutation-append_left, IsPermutation-to_front, IsPermutation-middle, IsPermutation-trans, length_permutation}
+use Rattle.wire.specs.Channel.{Put, Taken, Oldest}
+use Rattle.arrayvec.specs.ArrayVec.{ArrayVec}
 
 module _ {X : Type 0} where
-  pub shuffled_comm : (xs ys : List X) → IsPermutation (xs ++ ys) (ys ++ xs)
-  shuffled_comm [] ys = same_list ys (ys ++ []) (simp append-nil)
-  shuffled_comm (x ∷ xs) ys = IsPermutation-trans _ _ _ (IsPermutation-cons x _ _ (shuffled_comm xs ys)) (IsPermutation-sym _ _ (shuffled_mid ys xs x))
-
-  pub shuffled_front : (zs xs ys : List X) → IsPermutation xs ys → IsPermutation (zs ++ xs) (zs ++ ys)
-  shuffled_front [] xs ys h = h
-  shuffled_front (z ∷ zs) xs ys h = IsPermutation-cons z _ _ (shuffled_front zs xs ys h)
-
-  pub shuffled_back : (xs ys zs : List X) → IsPermutation xs ys → IsPermutation (xs ++ zs) (ys ++ zs)
-  shuffled_back xs ys zs h = IsPermutation-trans _ _ _ (shuffled_comm xs zs) (IsPermutation-trans _ _ _ (shuffled_front zs xs ys h) (shuffled_comm zs ys))
-
   -- of two parts, one holds the same and the other one more at its end
-  pub put_beside : (xs xs' ys ys' : List X) (m : X) → IsPermutation xs' xs → ys' ≡ ys ++ m ∷ [] → IsPermutation (xs' ++ ys') (m ∷ (xs ++ ys))
-  put_beside xs xs' ys ys' m h e =
-      IsPermutation-trans _ _ _ (shuffled_back xs' xs ys' h)
-      (IsPermutation-trans _ _ _ (shuffled_front xs ys' (m ∷ ys) (put_last ys ys' m e)) (shuffled_mid xs ys m))
+  pub put_beside : (xs xs' ys : List X) (m : X) → IsPermutation xs' xs → IsPermutation (xs' ++ (ys ++ m ∷ [])) (m ∷ (xs ++ ys))
+  put_beside xs xs' ys m h = IsPermutation-trans _ _ _ (IsPermutation-append _ _ _ _ h (IsPermutation-to_front ys m)) (IsPermutation-middle xs m ys)
 
-  pub nil_from_shuffled : (xs : List X) → IsPermutation xs [] → xs ≡ []
+  -- nothing fits below: what a pocket of 64 does with a message, both do
+  pub keep_beside : {U V E F : Type 0} (below below' : List X) (v v' : ArrayVec X) (m : X) (room left : ℕ) (t : Result U E) (r : Result V F) → is_ok r ≡ is_ok t → IsPermutation below' below × (room ≡ 0) × (left ≡ 0)
+      → (IsOk t ↔ (length v.items < 64)) → OnOk t (v'.items ≡ v.items ++ m ∷ []) → OnErr t (v' ≡ v) → OnErr t (length v.items ≡ 64)
+      → Put (below ++ v.items) (room + (64 - length v.items)) m (below' ++ v'.items) (left + (64 - length v'.items)) r
+  keep_beside below below' v v' m room left (Ok _) (Ok _) s (h, y, z) few put same full =
+      let lt : length v.items < 64 = few.0 refl in
+      (rw put (put_beside below below' v.items m h), rw put (omega (arith, length-append v.items (m ∷ []))))
+  keep_beside below below' v v' m room left (Ok _) (Err _) s h few put same full = cc
+  keep_beside below below' v v' m room left (Err _) (Ok _) s h few put same full = cc
+  keep_beside below below' v v' m room left (Err _) (Err _) s (h, y, z) few put same full =
+      (rw same (IsPermutation-append_left _ _ _ h), omega (arith, full), rw same (omega (arith, full)))
+
+  -- what stands first is taken out
+  pub first_taken : (xs ys : List X) (r : Option X) → r ≡ slice_get xs 0 → OnSome r (ys ≡ remove xs 0) → Oldest xs ys r
+  first_taken [] ys None e s = cc
+  first_taken [] ys (Some m) e s = cc
+  first_taken (x ∷ xs) ys None e s = cc
+  first_taken (x ∷ xs) ys (Some m) e s = cc
+
+  nil_from_shuffled : (xs : List X) → IsPermutation xs [] → xs ≡ []
   nil_from_shuffled xs h = nil_from_length xs (omega (arith, length_permutation xs [] h))
 
-  -- of two stores the first is empty: what the second gives, both give
-  pub take_beside : (before below below' pocket pocket' : List X) (n n' whole room left : ℕ) (r : Option X) → IsPermutation before (below ++ pocket) → n + room ≡ whole → (below ≡ []) × (below' ≡ []) × (n' ≡ n) → Taken pocket room pocket' left r → Taken before whole (below' ++ pocket') (n' + left) r
-  take_beside before below below' pocket pocket' n n' whole room left None h w (e, f, k) (p, q, l) =
-      (nil_from_shuffled before (rw (e, p) at h), rw (f, q), omega (arith, w, k, l))
-  take_beside before below below' pocket pocket' n n' whole room left (Some m) h w (e, f, k) (s, l) =
-      let none : IsPermutation before pocket = rw e at h in
-      (rw f (IsPermutation-trans _ _ _ none s), omega (arith, w, k, l))
-
--- nothing fits below: what the pocket does with a message, both do
-pub keep_beside : {U F : Type 0} (below below' pocket pocket' : List Message) (m : Message) (n n' room left : ℕ) (r : Result U F) → room ≡ 0 → left ≡ 0 → length pocket ≡ n → n ≤ 64 → IsPermutation below' below → Kept pocket n m pocket' n' r
-    → Put (below ++ pocket) (room + (64 - n)) m (below' ++ pocket') (left + (64 - n')) r × Entered room below pocket m below' pocket' r
-keep_beside below below' pocket pocket' m n n' room left (Ok _) z y l few s (h, e, o) =
-    ((put_beside below below' pocket pocket' m s e, omega arith), inr (z, omega arith, s, e))
-keep_beside below below' pocket pocket' m n n' room left (Err _) z y l few s (h, e, o) =
-    let moved : IsPermutation (below' ++ pocket') (below ++ pocket) = rw e (shuffled_back below' below pocket s) in
-    ((moved, omega arith, omega arith), (z, omega arith, s, e))
+  -- nothing is left below: what a pocket of 64 gives, both give
+  pub take_beside : (before below below' : List X) (v v' : ArrayVec X) (n n' whole : ℕ) (r : Option X) → IsPermutation before (below ++ v.items) → n + (64 - length v.items) ≡ whole → (below ≡ []) × (below' ≡ []) × (n' ≡ n) → length v.items ≤ 64 → Oldest v.items v'.items r → IfNone r (v' ≡ v)
+      → Taken before whole (below' ++ v'.items) (n' + (64 - length v'.items)) r
+  take_beside before below below' v v' n n' whole None h w (e, f, k) few o same =
+      (nil_from_shuffled before (rw (e, o) at h), rw (f, same, o), rw same (omega (arith, w, k)))
+  take_beside before below below' v v' n n' whole (Some m) h w (e, f, k) few o same =
+      (rw f (rw (e, o) at h), omega (arith, w, k, ap length o))

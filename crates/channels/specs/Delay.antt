@@ -1,5 +1,5 @@
 -- What the delaying layer keeps back, where it puts a message, and what it gives.
-use Rattle.std.specs.Prelude.{◌≡◌, ℕ, ◌+◌, ◌<◌, Bool, true, false, ◌&&◌, ◌⊎◌, List, [], ◌∷◌, ◌++◌, length, pos, Some, Ok, Err, Option, Result, ◌==◌, nat_le, nat_lt}
+use Rattle.std.specs.Prelude.{◌≡◌, ℕ, ◌<◌, Bool, true, false, ◌&&◌, ◌⊎◌, List, [], ◌∷◌, ◌++◌, length, Some, Ok, Err, Option, Result, ◌==◌, nat_le, nat_lt}
 use Rattle.std.specs.List.Sorted.{IsPermutation}
 use Rattle.wire.specs.declared.message.Message.{Message}
 use Rattle.wire.specs.Channel.{Oldest}
@@ -7,15 +7,6 @@ use Rattle.wire.specs.Channel.{Oldest}
 -- a message of kind 1 to 3 to the delayed replica, while fewer than 64 are in the pocket
 abbrev pub is_later : ℕ → ℕ → Message → Bool
 is_later replica n m = nat_le 1 m.kind && (nat_le m.kind 3 && (m.replica == replica && nat_lt n 64))
-
--- the cells hold it before anything was kept
-abbrev pub blank : Message
-blank = record { kind = 0; replica = 0; client = 0; round = 0; version = 0; value = pos 0; previous = pos 0; marks = 0; note = 0 }
-
--- a pocket with n messages, before and after: the message stands at its end; it is refused exactly if 64 are in the pocket
-abbrev pub Kept : {U F : Type 0} → List Message → ℕ → Message → List Message → ℕ → Result U F → Type 0
-Kept pocket n m pocket' n' (Ok _) = (n < 64) × (pocket' ≡ pocket ++ m ∷ []) × (n' ≡ n + 1)
-Kept pocket n m pocket' n' (Err _) = (n ≡ 64) × (pocket' ≡ pocket) × (n' ≡ n)
 
 -- where a message goes: below if one of the room places there is free, else to the end of the pocket, if that is not full
 abbrev pub Entered : {U F : Type 0} → ℕ → List Message → List Message → Message → List Message → List Message → Result U F → Type 0

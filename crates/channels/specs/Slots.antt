@@ -1,6 +1,8 @@
 -- What a table of slots holds.
-use Rattle.std.specs.Prelude.{◌≡◌, ℕ, suc, ◌<◌, Bool, false, cond, ◌&&◌, ◌||◌, List, [], ◌∷◌, length, Some, None, Option, ◌==◌, nat_lt, slice_index_or}
+use Rattle.std.specs.Prelude.{◌≡◌, ℕ, suc, ◌<◌, Bool, false, ◌&&◌, ◌||◌, List, [], ◌∷◌, length, Some, None, Option, ◌==◌, nat_lt, slice_index_or}
 use Rattle.wire.specs.declared.message.Message.{Message}
+use Rattle.channels.specs.declared.slots.Turn.{Turn}
+use Rattle.channels.specs.declared.slots.Turn.TheVariants.{Held, Unused}
 
 module _ {M : Type 0} where
   -- the messages in the slots
@@ -31,11 +33,10 @@ abbrev pub Lowest : List (Option Message) → Option Message → Type 0
 Lowest xs None = Unit {0}
 Lowest xs (Some m) = NoLower xs (length xs) m
 
--- the lower of what was found so far and what lies in the slot i
-abbrev pub pick : Option (ℕ × Message) → ℕ → Option Message → Option (ℕ × Message)
-pick best i None = best
-pick None i (Some m) = Some (i, m)
-pick (Some p) i (Some m) = cond (lower m p.1) (Some (i, m)) (Some p)
+-- a slot's turn: its message's, or that of no message
+abbrev pub turn_of : Option Message → Turn
+turn_of None = Unused
+turn_of (Some m) = Held (record { round = m.round; replica = m.replica; client = m.client; kind = m.kind })
 
 -- what a search for a lowest message has found in the slots below n
 abbrev pub Found : List (Option Message) → ℕ → Option (ℕ × Message) → Type 0

@@ -1,103 +1,81 @@
-// The slot channel: a table of 256 slots of its own, which gives the lowest message.
-ghost use Rattle.std.specs.Prelude.{◌≡◌, ℕ, ◌+◌, ◌<◌, ◌≤◌, true, false, [], ◌∷◌, length, Some, None, MatchOption, slice_index_or, slice_set};
+//! The slot channel: a table of 256 slots of its own, which gives the lowest message.
+ghost use Rattle.std.specs.Prelude.{◌≡◌, ℕ, ◌<◌, ◌≤◌, [], length, None, MatchOption, slice_index_or};
 ghost use Rattle.wire.specs.Channel.{Taken};
-ghost use Rattle.channels.specs.Slots.{somes, gaps, lower, Lowest, Found, pick};
+ghost use Rattle.channels.specs.Slots.{somes, gaps, Lowest, Found, turn_of};
 
 use wire::channel::{Channel, Full};
 use wire::message::Message;
 
+/// Each slot holds a message or is unused.
 #[derive(Drop)]
 pub struct Slots {
     table: [Option<Message>; 256],
     ghost long: { length table ≡ 256 },
 }
 
-// Is a before b: by round, then replica, then client, then kind?
-fn is_lower(a: &Message, b: &Message) -> bool
-    ensures { result ≡ lower a.now b.now }
+/// What a message's turn goes by, the first field first.
+#[derive(Clone, Copy, PartialEq, Eq, PartialOrd, Ord)]
+struct Rank {
+    round: u32,
+    replica: u8,
+    client: u8,
+    kind: u8,
+}
+
+/// A slot's turn; an unused slot's comes after all others.
+#[derive(Clone, Copy, PartialEq, Eq, PartialOrd, Ord)]
+enum Turn {
+    Held(Rank),
+    Unused,
+}
+
+fn turn_of(slot: &Option<Message>) -> Turn
+    ensures { result ≡ turn_of slot.now }
 {
-    a.round < b.round
-        || (a.round == b.round
-            && (a.replica < b.replica
-                || (a.replica == b.replica
-                    && (a.client < b.client || (a.client == b.client && a.kind < b.kind)))))
+    match slot {
+        Some(m) => Turn::Held(Rank {
+            round: m.round,
+            replica: m.replica,
+            client: m.client,
+            kind: m.kind,
+        }),
+        None => Turn::Unused,
+    }
 }
 
 // The first slot that is unused.
+#[tactic(auto, using(crate::proofs::Slotted::first_unused))]
 fn unused(table: &[Option<Message>]) -> Option<usize>
     ensures { MatchOption result (gaps table.now ≡ 0) (λ i. (i < length table.now) × (slice_index_or table.now i None ≡ None)) }
 {
-    for (i, s) in table.iter().enumerate() {
-        if s.is_none() {
-            return Some(i);
-        }
-    }
-    None
+    table.iter().position(|s| s.is_none())
 }
 
 // How many slots are unused.
+#[tactic(auto, using(crate::proofs::Slotted::gaps_count))]
 fn count_unused(table: &[Option<Message>]) -> usize
     ensures counted { result ≡ gaps table.now }
     ensures few { result ≤ length table.now }
 {
-    let mut n: usize = 0;
-    for s in table {
-        if s.is_none() {
-            n += 1;
-        }
-    }
-    n
+    table.iter().filter(|s| s.is_none()).count()
 }
 
 // Where a lowest message lies, with that message.
 fn lowest(table: &[Option<Message>]) -> Option<(usize, Message)>
     ensures { Found table.now (length table.now) result }
 {
-    let mut best: Option<(usize, Message)> = None;
-    for (i, s) in table.iter().enumerate() {
-        best = better(best, i, *s);
-    }
-    best
-}
-
-// The lower of what was found so far and what lies in the slot i.
-fn better(best: Option<(usize, Message)>, i: usize, s: Option<Message>) -> Option<(usize, Message)>
-    ensures { result ≡ pick best i s }
-{
-    let Some(m) = s else {
-        return best;
-    };
-    if let Some((_, b)) = best {
-        if !is_lower(&m, &b) {
-            return best;
-        }
-    }
+    let (i, slot) = table.iter().enumerate().min_by_key(|p| turn_of(p.1))?;
+    let m = (*slot)?;
     Some((i, m))
 }
 
 impl Slots {
-    // Nothing waits, and 256 places are free.
+    /// Nothing waits, and 256 places are free.
     pub fn new() -> Self
         ensures empty { somes result.table ≡ [] }
         ensures room { gaps result.table ≡ 256 }
     {
         Slots { table: [None; 256] }
-    }
-
-    // The message lies in the slot i.
-    fn fill(&mut self, i: usize, m: Message)
-        requires { i < 256 }
-        ensures { self.new.table ≡ slice_set self.old.table i (Some m) }
-    {
-        self.table[i] = Some(m);
-    }
-
-    // The slot i is unused, for a later message.
-    fn clear(&mut self, i: usize)
-        requires { i < 256 }
-        ensures { self.new.table ≡ slice_set self.old.table i None }
-    {
-        self.table[i] = None;
     }
 }
 
@@ -106,26 +84,25 @@ impl Channel for Slots {
 
     ghost places = { λ s. gaps s.table };
 
+    #[tactic(auto, using(crate::proofs::Slotted::filled_holds, crate::proofs::Slotted::filled_leaves))]
     fn put(&mut self, m: Message) -> Result<(), Full> {
-        let Some(i) = unused(&self.table) else {
-            return Err(Full);
-        };
-        self.fill(i, m);
+        let i = unused(&self.table).ok_or(Full)?;
+        self.table[i] = Some(m);
         Ok(())
     }
 
-    // It gives the lowest: none that waited is before it.
+    /// It gives the lowest: none that waited is before it.
+    #[tactic(auto, using(crate::proofs::Slotted::none_held, crate::proofs::Slotted::freed_holds, crate::proofs::Slotted::freed_leaves))]
     fn take(&mut self) -> Option<Message>
         ensures meets { Taken (somes self.old.table) (gaps self.old.table) (somes self.new.table) (gaps self.new.table) result }
         ensures lowest { Lowest self.old.table result }
     {
-        let Some((i, m)) = lowest(&self.table) else {
-            return None;
-        };
-        self.clear(i);
+        let (i, m) = lowest(&self.table)?;
+        self.table[i] = None;
         Some(m)
     }
 
+    #[tactic(auto, using(crate::proofs::Slotted::somes_gaps))]
     fn waiting(&self) -> u32 {
         (256 - count_unused(&self.table)) as u32
     }

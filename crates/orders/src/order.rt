@@ -1,16 +1,16 @@
-// The six calls that a register takes, as orders with numbers as they are given.
+//! The six calls that a register takes, as orders with numbers as they are given.
 #[derive(Debug, Clone, Copy, PartialEq, Eq)]
 pub enum Order {
-    // the writer begins to write a value
+    /// the writer begins to write a value
     Write(i32),
-    // a reader begins to read
+    /// a reader begins to read
     Read(u32),
-    // a reader whose read is due begins its second round
+    /// a reader whose read is due begins its second round
     Tell(u32),
-    // one waiting message is taken from the channel and handled
+    /// one waiting message is taken from the channel and handled
     Carry,
-    // a replica is withdrawn
+    /// a replica is withdrawn
     ReplicaOut(u32),
-    // a client is withdrawn
+    /// a client is withdrawn
     ClientOut(u32),
 }

@@ -27,7 +27,7 @@ fn main(rt: HostRuntime) -> anyhow::Result<()> {
     };
     let mut sheet = Vec::new(heap);
     rt.stdin().take(65_536).read_to_end(&mut sheet)?;
-    let mut cells = vec![in heap; Message::BLANK; 1024]?;
+    let mut cells = vec![in heap; Message::default(); 1024]?;
     let mut orders = vec![in heap; Order::Carry; 4096]?;
     let mut answers = vec![in heap; Answer::Dropped; 4096]?;
     let mut out = vec![in heap; 0u8; 65536]?;

@@ -1,15 +1,10 @@
 -- One element more at the end of a ring (`ring_push`), and one fewer at its start (`ring_pop`).
-use Rattle.std.proofs.Common.{◌≡◌, ℕ, zero, suc, ◌+◌, ◌-◌, ◌<◌, ◌≤◌, List, [], ◌∷◌, ◌++◌, length, get_or, take, drop, set, sym, refl, ap, ◌∙◌, inl, inr, le_of_suc-le-suc, not-suc-le-zero, add-one, arith}
+use Rattle.std.proofs.Common.{◌≡◌, ℕ, ◌+◌, ◌-◌, ◌<◌, ◌≤◌, List, [], ◌∷◌, ◌++◌, length, get_or, take, drop, set, sym, ap, ◌∙◌, inl, inr, add-one, arith}
 use Rattle.std.proofs.lemmas.List.{append-nil, append_assoc, length-append, length-take, length-drop, set-append_left, set-append_right, take_all, take-append-le, take-set-le, drop-set-lt, drop-set-add, drop_all, drop_more, take_more, take_more_set}
+use Rattle.std.proofs.Math.Seq.{take-set-lt}
 use Rattle.std.proofs.lemmas.Bool.{cases_lt}
 use Rattle.std.proofs.lemmas.Bool.Decides.{nat_tests}
 use Rattle.wire.specs.Ring.{ring, end_of, first_of}
-
-take_set_lt : {X : Type 0} (n : ℕ) (xs : List X) (i : ℕ) (y : X) → i < n → take n (set xs i y) ≡ set (take n xs) i y
-take_set_lt zero xs i y h = absurd (not-suc-le-zero h)
-take_set_lt (suc n) [] i y h = refl
-take_set_lt (suc n) (x ∷ xs) zero y h = refl
-take_set_lt (suc n) (x ∷ xs) (suc i) y h = ap (λ l. x ∷ l) (take_set_lt n xs i y (le_of_suc-le-suc h))
 
 -- the new element lies before the end of the cells
 ring_push_on : {X : Type 0} (xs : List X) (s n : ℕ) (y : X) → s + n < length xs → ring (set xs (s + n) y) s (n + 1) ≡ ring xs s n ++ y ∷ []
@@ -28,7 +23,7 @@ ring_push_round xs s n i y le h e =
     let at : n - (length xs - s) ≡ i = omega arith in
     let whole : n < length (drop s xs ++ take s xs) = simp (length-append, length-drop, length-take) (omega arith) in
     let turned : drop s (set xs i y) ++ take s (set xs i y) ≡ set (drop s xs ++ take s xs) n y =
-    rw (drop-set-lt s xs i y h, take_set_lt s xs i y h, set-append_right (drop s xs) (take s xs) (length xs - s) n y gap past, at) in
+    rw (drop-set-lt s xs i y h, take-set-lt s xs i y h, set-append_right (drop s xs) (take s xs) (length xs - s) n y gap past, at) in
     ap (take (n + 1)) turned ∙ take_more_set (drop s xs ++ take s xs) n y whole
 
 front : {X : Type 0} (xs : List X) (s n : ℕ) (x : X) → s < length xs → x ≡ get_or xs s x → ring xs s (n + 1) ≡ x ∷ take n (drop (s + 1) xs ++ take s xs)
@@ -45,9 +40,6 @@ ring_whole : {X : Type 0} (xs : List X) (s n : ℕ) → s ≡ length xs → ring
 ring_whole xs s n e =
     let le : length xs ≤ s = omega arith in
     rw (drop_all s xs le, take_all s xs le) (ap (take n) (sym (append-nil xs)))
-
-pub length_ring : {X : Type 0} (xs : List X) (s n : ℕ) → s ≤ length xs → n ≤ length xs → length (ring xs s n) ≡ n
-length_ring xs s n h m = simp (length-take, length-append, length-drop) (omega arith)
 
 pub ring_push : {X : Type 0} (xs : List X) (s n i : ℕ) (y : X) → s ≤ length xs → n < length xs → i ≡ end_of s n (length xs) → ring (set xs i y) s (n + 1) ≡ ring xs s n ++ y ∷ []
 ring_push xs s n i y h m e =

@@ -1,4 +1,4 @@
-// What goes on the wire: messages, their kinds, and the channels that carry them.
+//! What goes on the wire: messages, their kinds, and the channels that carry them.
 #![tactic(auto)]
 
 pub mod channel;

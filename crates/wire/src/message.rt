@@ -1,9 +1,10 @@
-// A message, as every channel carries it.
+//! A message, as every channel carries it.
 
-// One message. Kinds 1 to 3 (write, read, tell) go to the replica, kinds 4 to 6 (their replies) to
-// the client; any other kind goes nowhere. Nothing is promised of the fields: a channel takes any.
+/// One message. Kinds 1 to 3 (write, read, tell) go to the replica, kinds 4 to 6 (their replies) to
+/// the client; any other kind goes nowhere. Nothing is promised of the fields: a channel takes any.
 #[derive(Debug, Clone, Copy, PartialEq, Eq, Default)]
 pub struct Message {
+    // Stays: a number, since a channel may hold any byte; `Kind::try_from` gives the kind that it names.
     pub kind: u8,
     pub replica: u8,
     pub client: u8,
@@ -13,19 +14,4 @@ pub struct Message {
     pub previous: i32,
     pub marks: u8,
     pub note: u32,
-}
-
-impl Message {
-    // What stands in memory before any message does.
-    pub const BLANK: Message = Message {
-        kind: 0,
-        replica: 0,
-        client: 0,
-        round: 0,
-        version: 0,
-        value: 0,
-        previous: 0,
-        marks: 0,
-        note: 0,
-    };
 }

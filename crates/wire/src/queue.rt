@@ -1,25 +1,34 @@
-// The first-in first-out queue, a ring in memory that is lent to it.
-ghost use Rattle.std.specs.Prelude.{◌≡◌, ℕ, ◌-◌, ◌<◌, ◌≤◌, min, [], length, nat_le};
-ghost use Rattle.wire.specs.Ring.{ring, end_of, first_of};
+//! The first-in first-out queue, a ring in memory that is lent to it.
+ghost use Rattle.std.specs.Prelude.{◌≡◌, ℕ, ◌-◌, ◌<◌, ◌≤◌, [], length};
+ghost use Rattle.wire.specs.Ring.{Queued, ring, end_of, first_of};
 ghost use Rattle.wire.specs.Channel.{Taken, Oldest};
 
 use crate::channel::{Channel, Full};
 use crate::message::Message;
+use std::marker::Model;
 
+/// The messages lie in `len` cells from `start` on, going round at the end; a `start` at the end means the first cell.
+// Stays: a ring by hand, since its cells are lent and fixed, and none of the kit's queues lies in lent memory.
 #[derive(Drop)]
 pub struct Queue<'a> {
     cells: &'a mut [Message],
     start: usize,
     len: usize,
-    ghost within: { start ≤ length cells.now },
-    ghost few: { len ≤ length cells.now },
+}
+
+impl<'a> Model for Queue<'a> {
+    ghost Value = { Queued };
+
+    ghost view = { λ q. record { items = ring q.cells.now q.start q.len; room = length q.cells.now - q.len; cells = q.cells } };
+
+    ghost invariant = { λ q. (q.start ≤ length q.cells.now) × (q.len ≤ length q.cells.now) };
 }
 
 impl<'a> Queue<'a> {
-    // Nothing waits, and every cell is a free place; what the cells held is of no account.
+    /// Nothing waits, and every cell is a free place; what the cells held is of no account.
     pub fn new(cells: &'a mut [Message]) -> Self
-        ensures empty { ring result.cells.now result.start result.len ≡ [] }
-        ensures room { length result.cells.now - result.len ≡ length cells.old }
+        ensures empty { result.items ≡ [] }
+        ensures room { result.room ≡ length cells.old }
         ensures cells { result.cells.now ≡ cells.old }
         ensures lender { result.cells.ghost_name ≡ cells.entry.ghost_name }
     {
@@ -32,7 +41,7 @@ impl<'a> Queue<'a> {
 }
 
 // The cell after the last element of a ring.
-pub(crate) fn end_of(start: usize, len: usize, cap: usize) -> usize
+fn end_of(start: usize, len: usize, cap: usize) -> usize
     requires start { start ≤ cap }
     requires len { len < cap }
     ensures at { result ≡ end_of start len cap }
@@ -43,7 +52,7 @@ pub(crate) fn end_of(start: usize, len: usize, cap: usize) -> usize
 }
 
 // The cell of the first element of a ring.
-pub(crate) fn first_of(start: usize, cap: usize) -> usize
+fn first_of(start: usize, cap: usize) -> usize
     requires start { start ≤ cap }
     requires some { 0 < cap }
     ensures at { result ≡ first_of start cap }
@@ -52,31 +61,13 @@ pub(crate) fn first_of(start: usize, cap: usize) -> usize
     if start < cap { start } else { 0 }
 }
 
-// Is no cell free?
-pub(crate) fn is_full(len: usize, cap: usize) -> bool
-    ensures { result ≡ nat_le cap len }
-{
-    len >= cap
-}
-
-// A count as 32 bits hold it.
-pub(crate) fn saturated(n: usize) -> u32
-    ensures { result ≡ min 4294967295 n }
-{
-    if n > 4_294_967_295 {
-        4_294_967_295
-    } else {
-        n as u32
-    }
-}
-
 impl Channel for Queue<'_> {
-    ghost held = { λ q. ring q.cells.now q.start q.len };
+    ghost held = { λ q. q.items };
 
-    ghost places = { λ q. length q.cells.now - q.len };
+    ghost places = { λ q. q.room };
 
     fn put(&mut self, m: Message) -> Result<(), Full> {
-        if is_full(self.len, self.cells.len()) {
+        if self.len >= self.cells.len() {
             return Err(Full);
         }
         let at = end_of(self.start, self.len, self.cells.len());
@@ -85,10 +76,10 @@ impl Channel for Queue<'_> {
         Ok(())
     }
 
-    // It gives the oldest.
+    /// It gives the oldest.
     fn take(&mut self) -> Option<Message>
-        ensures meets { Taken (ring self.old.cells.now self.old.start self.old.len) (length self.old.cells.now - self.old.len) (ring self.new.cells.now self.new.start self.new.len) (length self.new.cells.now - self.new.len) result }
-        ensures oldest { Oldest (ring self.old.cells.now self.old.start self.old.len) (ring self.new.cells.now self.new.start self.new.len) result }
+        ensures meets { Taken self.old.items self.old.room self.new.items self.new.room result }
+        ensures oldest { Oldest self.old.items self.new.items result }
     {
         if self.len == 0 {
             return None;
@@ -101,10 +92,10 @@ impl Channel for Queue<'_> {
     }
 
     fn waiting(&self) -> u32 {
-        saturated(self.len)
+        u32::try_from(self.len).unwrap_or(u32::MAX)
     }
 
     fn free(&self) -> u32 {
-        saturated(self.cells.len() - self.len)
+        u32::try_from(self.cells.len() - self.len).unwrap_or(u32::MAX)
     }
 }

@@ -1,5 +1,0 @@
-use Rattle.channels.specs.Slots.{Found}
-use Rattle.channels.proofs.slots.lowest.Given as goal
-
-abbrev pub invariant-loop-i : goal.invariant-loop-i
-invariant-loop-i l = Found l.table l.i l.best
