@@ -1,10 +1,11 @@
-// The slips of one round, at most one of each replica, in memory that is lent.
+//! The slips of one round, at most one of each replica, in memory that is lent.
 ghost use Rattle.std.specs.Prelude.{◌≡◌, ◌+◌, ◌≤◌, min, length, take, if◌then◌else◌, slice_set};
 ghost use Rattle.quorum.specs.Tallies.{from, adds, Once};
 
 use crate::slip::Slip;
 
-// The first len places hold slips; the others are free.
+/// The first len places hold slips; the others are free.
+// Stays: the product's rules name this form: one tally over a lent slice, for receipts and readings.
 #[derive(Drop)]
 pub struct Tally<'a, T: Slip> {
     places: &'a mut [T],
@@ -16,16 +17,11 @@ pub struct Tally<'a, T: Slip> {
 fn is_from<T: Slip>(slips: &[T], replica: u8) -> bool
     ensures { result ≡ from T.sent_by replica slips.now }
 {
-    for s in slips {
-        if s.sender() == replica {
-            return true;
-        }
-    }
-    false
+    slips.iter().any(|s| s.sender() == replica)
 }
 
 impl<'a, T: Slip + Drop> Tally<'a, T> {
-    // Goes on with the first len places; a len above the number of places is lowered to it.
+    /// Goes on with the first len places; a len above the number of places is lowered to it.
     pub fn over(places: &'a mut [T], len: usize) -> Tally<'a, T>
         ensures len { result.len ≡ min len (length places.old) }
         ensures same { result.places.now ≡ places.old }
@@ -38,14 +34,14 @@ impl<'a, T: Slip + Drop> Tally<'a, T> {
         Tally { places, len }
     }
 
-    // How many slips are held.
+    /// How many slips are held.
     pub fn count(&self) -> usize
         ensures { result ≡ self.now.len }
     {
         self.len
     }
 
-    // Is a slip of the replica held?
+    /// Is a slip of the replica held?
     pub fn has(&self, replica: u8) -> bool
         ensures { result ≡ from T.Slip.sent_by replica (take self.now.len self.now.places.now) }
     {
@@ -60,7 +56,7 @@ impl<'a, T: Slip + Drop> Tally<'a, T> {
         !self.has(slip.sender()) && self.len < self.places.len()
     }
 
-    // Adds the slip, unless its replica is counted already or no place is left.
+    /// Adds the slip, unless its replica is counted already or no place is left.
     pub fn add(&mut self, slip: T) -> bool
         ensures said { result ≡ adds T.Slip.sent_by self.old.places.now self.old.len slip }
         ensures after { self.new.places.now ≡ (if result then slice_set self.old.places.now self.old.len slip else self.old.places.now) }
@@ -76,4 +72,12 @@ impl<'a, T: Slip + Drop> Tally<'a, T> {
         self.len = n + 1;
         true
     }
+}
+
+// Adds the slip behind the first len places, unless its replica is counted already or no place is left.
+pub(crate) fn add_to<T: Slip + Drop>(places: &mut [T], len: usize, slip: T) -> bool
+    ensures said { result ≡ adds T.sent_by places.old len slip }
+    ensures after { places.new ≡ (if result then slice_set places.old len slip else places.old) }
+{
+    Tally::over(places, len).add(slip)
 }

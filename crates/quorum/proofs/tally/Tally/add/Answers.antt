@@ -1,13 +1,6 @@
 -- A slip that is added is of a new replica, so each is still named once.
-use Rattle.std.proofs.Common.{rules}
 use Rattle.quorum.proofs.From.{once_added}
 use Rattle.quorum.proofs.tally.Tally.add.Goals as goal
 
-pub returns : goal.returns
-returns g c = record {
-  said = search rules;
-  after = search rules;
-  counted = search rules;
-  lender = search rules;
-  once = once_added g.T.Slip.sent_by c.args.self.now.places.now c.args.self.now.len c.args.slip c.if-not-takes.ensures;
-}
+pub returns-clause-once : goal.returns-clause-once
+returns-clause-once g c = once_added g.T.Slip.sent_by c.args.self.now.places.now c.args.self.now.len c.args.slip c.if-not-takes.ensures
