@@ -2,7 +2,7 @@
 ghost use Rattle.std.specs.Prelude.{◌≡◌};
 ghost use Rattle.quorum.specs.Deciding.{verdict_at, decided_at, decided};
 
-use crate::highest::{highest, lowest_at, notes_at};
+use crate::highest::{highest, lowest_in, notes_at};
 use crate::rule::Rule;
 use crate::slip::Reading;
 
@@ -20,8 +20,11 @@ pub enum Verdict {
 /// The highest version of a first round, its value and the one before, and how the round ends.
 #[derive(Debug, Clone, Copy, PartialEq, Eq)]
 pub struct Decided {
+    /// the highest version
     pub version: u32,
+    /// its value
     pub value: i32,
+    /// the value of the version before it
     pub previous: i32,
     pub verdict: Verdict,
 }
@@ -48,7 +51,7 @@ impl Rule {
     fn decide_at(self, slips: &[Reading], h: u32) -> Decided
         ensures { result ≡ decided_at self.replicas self.tolerated self.groups h slips.now }
     {
-        let shown = lowest_at(slips, h).unwrap_or_default();
+        let shown = lowest_in(slips, h).unwrap_or_default();
         let verdict = self.verdict_at(slips, h);
         Decided {
             version: h,

@@ -9,8 +9,11 @@ use crate::slip::Reading;
 /// others at version 0 with none. Mark 1 is the writer's, 2 and 4 are those of the two groups.
 #[derive(Debug, Clone, Copy, PartialEq, Eq)]
 pub struct Example {
+    /// how many replies are at version 1
     pub many: u8,
+    /// the marks of each of them
     pub marks: u8,
+    /// the note of each of them
     pub note: u32,
     /// the version that the read shows, or none if it is due
     pub shown: Option<u32>,

@@ -31,7 +31,7 @@ pub(crate) fn notes_at(slips: &[Reading], h: u32) -> usize
 }
 
 // The reply of the lowest replica among those at version h, the first of equals.
-pub(crate) fn lowest_at(slips: &[Reading], h: u32) -> Option<Reading>
+pub(crate) fn lowest_in(slips: &[Reading], h: u32) -> Option<Reading>
     ensures { result ≡ lowest_in h slips.now }
 {
     let mut lowest: Option<Reading> = None;
@@ -41,4 +41,19 @@ pub(crate) fn lowest_at(slips: &[Reading], h: u32) -> Option<Reading>
         }
     }
     lowest
+}
+
+#[cfg(test)]
+mod tests {
+    use super::*;
+    use wire::message::Message;
+
+    #[test]
+    fn reply_messages_name_versions(rt: HostRuntime) {
+        let replies = [3, 7, 5].map(|version| Message {
+            version,
+            ..Message::BLANK
+        });
+        assert_eq!(rt; highest(&replies), 7);
+    }
 }

@@ -10,6 +10,7 @@ use crate::tally::add_to;
 // Stays: the library allocates nothing, so an array with a count beside it; both are public and copied, so no ghost field ties them.
 #[derive(Debug, Clone, Copy)]
 pub struct Replies<T> {
+    /// how many are counted
     pub got: usize,
     pub slips: [T; 32],
 }

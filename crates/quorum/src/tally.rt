@@ -13,13 +13,6 @@ pub struct Tally<'a, T: Slip> {
     ghost fits: { len ≤ length places.now },
 }
 
-// Is one of the slips from the replica?
-fn is_from<T: Slip>(slips: &[T], replica: u8) -> bool
-    ensures { result ≡ from T.sent_by replica slips.now }
-{
-    slips.iter().any(|s| s.sender() == replica)
-}
-
 impl<'a, T: Slip + Drop> Tally<'a, T> {
     /// Goes on with the first len places; a len above the number of places is lowered to it.
     pub fn over(places: &'a mut [T], len: usize) -> Tally<'a, T>
@@ -27,10 +20,7 @@ impl<'a, T: Slip + Drop> Tally<'a, T> {
         ensures same { result.places.now ≡ places.old }
         ensures lender { result.places.ghost_name ≡ places.entry.ghost_name }
     {
-        let most = places.len();
-        if len > most {
-            return Tally { places, len: most };
-        }
+        let len = len.min(places.len());
         Tally { places, len }
     }
 
@@ -45,8 +35,9 @@ impl<'a, T: Slip + Drop> Tally<'a, T> {
     pub fn has(&self, replica: u8) -> bool
         ensures { result ≡ from T.Slip.sent_by replica (take self.now.len self.now.places.now) }
     {
-        let s = &*self.places;
-        is_from(&s[..self.len], replica)
+        self.places[..self.len]
+            .iter()
+            .any(|s| s.sender() == replica)
     }
 
     // Is the slip's replica not counted yet, and a place left?
