@@ -54,6 +54,7 @@ impl<T: Slip + Drop> Replies<T> {
     }
 
     /// The slips that are counted.
+    #[tactic(auto, using(std::proofs::lemmas::List::take_all))]
     pub fn held(&self) -> &[T]
         ensures { result.now ≡ take self.now.got self.now.slips }
     {

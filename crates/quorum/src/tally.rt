@@ -48,6 +48,7 @@ impl<'a, T: Slip + Drop> Tally<'a, T> {
     }
 
     /// Adds the slip, unless its replica is counted already or no place is left.
+    #[tactic(auto, using(crate::proofs::From::once_added))]
     pub fn add(&mut self, slip: T) -> bool
         ensures said { result ≡ adds T.Slip.sent_by self.old.places.now self.old.len slip }
         ensures after { self.new.places.now ≡ (if result then slice_set self.old.places.now self.old.len slip else self.old.places.now) }
@@ -58,14 +59,14 @@ impl<'a, T: Slip + Drop> Tally<'a, T> {
         if !self.takes(&slip) {
             return false;
         }
-        let n = self.len;
-        self.places[n] = slip;
-        self.len = n + 1;
+        self.places[self.len] = slip;
+        self.len += 1;
         true
     }
 }
 
 // Adds the slip behind the first len places, unless its replica is counted already or no place is left.
+#[tactic(auto, using(crate::proofs::From::adds_lowered))]
 pub(crate) fn add_to<T: Slip + Drop>(places: &mut [T], len: usize, slip: T) -> bool
     ensures said { result ≡ adds T.sent_by places.old len slip }
     ensures after { places.new ≡ (if result then slice_set places.old len slip else places.old) }
