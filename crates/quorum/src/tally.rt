@@ -66,6 +66,7 @@ impl<'a, T: Slip + Drop> Tally<'a, T> {
 }
 
 // Adds the slip behind the first len places, unless its replica is counted already or no place is left.
+// A function of its own: a tally that a generic struct lends a field to leaves the checker no tie to it.
 #[tactic(auto, using(crate::proofs::From::adds_lowered))]
 pub(crate) fn add_to<T: Slip + Drop>(places: &mut [T], len: usize, slip: T) -> bool
     ensures said { result ≡ adds T.sent_by places.old len slip }
