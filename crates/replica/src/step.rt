@@ -1,7 +1,7 @@
 //! How a record is made from its row and written back, and what a message does to it.
-ghost use Rattle.std.specs.Prelude.{◌≡◌, ◌<◌, Some};
-ghost use Rattle.wire.specs.Kinds.{kind_of};
-ghost use Rattle.replica.specs.Replica.{opened_row, plain, record_of, fresh, stepped, replied, delivered, delivered_reply};
+ghost use Rattle.std.specs.Prelude.{◌≡◌, ◌+◌, ◌<◌, Some};
+ghost use Rattle.wire.specs.Kinds.{kind_of, number_of};
+ghost use Rattle.replica.specs.Replica.{opened_row, plain, record_of, fresh, reply_from, stepped, replied, delivered, delivered_reply};
 
 use crate::record::Replica;
 use crate::row::Row;
@@ -63,6 +63,22 @@ impl Replica {
         }
     }
 
+    // The reply to a message: its client and round, and what is held now.
+    fn reply(&self, kind: Kind, m: Message) -> Message
+        requires { number_of kind ≡ m.kind + 3 }
+        ensures { result ≡ reply_from (plain self.now) m }
+    {
+        Message {
+            kind: kind.into(),
+            version: self.version,
+            value: self.value,
+            previous: self.previous,
+            marks: self.marks,
+            note: self.note,
+            ..m
+        }
+    }
+
     /// One message: stale ones change nothing and have no reply.
     pub fn step(&mut self, m: Message) -> Option<Message>
         ensures after { plain self.new ≡ stepped (plain self.old) m }
@@ -75,15 +91,7 @@ impl Replica {
             return None;
         }
         self.take(kind, m);
-        Some(Message {
-            kind: reply.into(),
-            version: self.version,
-            value: self.value,
-            previous: self.previous,
-            marks: self.marks,
-            note: self.note,
-            ..m
-        })
+        Some(self.reply(reply, m))
     }
 }
 
