@@ -58,8 +58,8 @@ impl Replica {
         } else {
             self.marks |= m.marks;
         }
-        if kind == Kind::Tell && m.version > self.note {
-            self.note = m.version;
+        if kind == Kind::Tell {
+            self.note = self.note.max(m.version);
         }
     }
 
