@@ -8,12 +8,9 @@ use Rattle.std.proofs.lemmas.Bool.{and_parts, and_from, or_parts, or_from, ltb-t
 use Rattle.wire.specs.declared.message.Message.{Message}
 use Rattle.quorum.specs.declared.slip.Receipt.{Receipt}
 use Rattle.quorum.specs.declared.slip.Reading.{Reading}
-use Rattle.quorum.specs.declared.receipts.Receipts.{Receipts}
-use Rattle.quorum.specs.declared.readings.Readings.{Readings}
 use Rattle.quorum.specs.Tallies.{from, adds}
-use Rattle.quorum.specs.Rounds.{with_receipt, with_reading}
+use Rattle.quorum.specs.Rounds.{Receipts, Readings, receipt_of, reading_of, with_receipt, with_reading}
 use Rattle.quorum.proofs.From.{once_added}
-use Rattle.register.specs.Handling.{receipt_of, reading_of}
 use Rattle.laws.proofs.Sets.{Lacks}
 use Rattle.laws.proofs.Cards.{Slip, replicas_of}
 use Rattle.laws.proofs.Model as model

@@ -3,11 +3,11 @@ use Rattle.std.proofs.Common.{◌≡◌, ℕ, suc, ◌+◌, ◌-◌, ◌*◌, �
 use Rattle.std.proofs.lemmas.Bool.Decides.{nat_tests}
 use Rattle.std.proofs.lemmas.Bool.{eqb-true, eq-eqb, leb-false}
 use Rattle.wire.specs.declared.message.Message.{Message}
-use Rattle.quorum.specs.Rounds.{with_receipt, with_reading}
+use Rattle.quorum.specs.Rounds.{receipt_of, reading_of, with_receipt, with_reading}
 use Rattle.register.specs.declared.settings.Checked.{Checked}
 use Rattle.register.specs.declared.client.Phase.{Phase}
 use Rattle.register.specs.declared.client.Phase.TheVariants.{Idle, Writing, Asking, Due, Telling}
-use Rattle.register.specs.Handling.{awaited, uncounted, joined, is_complete, receipt_of, reading_of}
+use Rattle.register.specs.Handling.{awaited, uncounted, joined, is_complete}
 use Rattle.laws.proofs.Sets.{Lacks}
 use Rattle.laws.proofs.Cards.{Slip, replicas_of}
 use Rattle.laws.proofs.Model as model

@@ -11,14 +11,14 @@ use Rattle.orders.specs.declared.answer.Answer.TheVariants.{Lost, Ignored, Count
 use Rattle.quorum.specs.declared.slip.Reading.{Reading}
 use Rattle.quorum.specs.declared.decide.Verdict.{Verdict}
 use Rattle.quorum.specs.declared.decide.Verdict.TheVariants.{Highest, Due as Delayed, Previous}
-use Rattle.quorum.specs.Rounds.{with_receipt, with_reading}
+use Rattle.quorum.specs.Rounds.{receipt_of, reading_of, with_receipt, with_reading}
 use Rattle.register.specs.declared.settings.Checked.{Checked}
 use Rattle.register.specs.declared.client.Phase.{Phase}
 use Rattle.register.specs.declared.client.Phase.TheVariants.{Idle, Writing, Asking, Due, Telling}
 use Rattle.register.specs.declared.client.Client.{Client}
 use Rattle.register.specs.declared.register.Register.{Register}
 use Rattle.register.specs.State.{client_at, with_client, in_phase, blank_client}
-use Rattle.register.specs.Handling.{awaited, uncounted, joined, counts, is_complete, receipt_of, reading_of, heard, heard_answer, completed, completion, completed_in, completion_in, ended_as, shown_by, phase_by, knowing, is_stray, is_lost, to_replica, handled, handled_answer, handled_reply}
+use Rattle.register.specs.Handling.{awaited, uncounted, joined, counts, is_complete, heard, heard_answer, completed, completion, completed_in, completion_in, ended_as, shown_by, phase_by, knowing, is_stray, is_lost, to_replica, handled, handled_answer, handled_reply}
 use Rattle.register.specs.Past.{World, Entry}
 use Rattle.laws.proofs.Sets.{Lacks}
 use Rattle.laws.proofs.Cards.{Slip, replicas_of, highest, Decision}

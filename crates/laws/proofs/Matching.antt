@@ -3,8 +3,7 @@ use Rattle.std.proofs.Common.{◌≡◌, ℕ, ◌+◌, ◌-◌, ◌*◌, ◌<◌
 use Rattle.std.specs.List.{AllByRecursion}
 use Rattle.wire.specs.declared.message.Message.{Message}
 use Rattle.quorum.specs.declared.slip.Reading.{Reading}
-use Rattle.quorum.specs.declared.receipts.Receipts.{Receipts}
-use Rattle.quorum.specs.declared.readings.Readings.{Readings}
+use Rattle.quorum.specs.Rounds.{Receipts, Readings}
 use Rattle.quorum.specs.Tallies.{Once}
 use Rattle.replica.specs.declared.row.Row.{Row}
 use Rattle.register.specs.declared.settings.Checked.{Checked}

@@ -33,21 +33,21 @@ highest_by_lem : (a b c d : Bool) → by_tests a b c d ≡ Highest → (a ≡ tr
 highest_by_lem true b c d e = inl refl
 highest_by_lem false true c d e = inr (inl refl)
 highest_by_lem false false true d e = inr (inr refl)
-highest_by_lem false false false true e = absurd (let z : ◌≡◌ {A = ℕ} 0 1 = cc in let w : ⊥ = omega arith in w)
-highest_by_lem false false false false e = absurd (let z : ◌≡◌ {A = ℕ} 0 1 = cc in let w : ⊥ = omega arith in w)
+highest_by_lem false false false true e = cc
+highest_by_lem false false false false e = cc
 
 due_by : (a b c d : Bool) → by_tests a b c d ≡ Due → (a ≡ false) × (b ≡ false) × (c ≡ false) × (d ≡ true)
-due_by true b c d e = absurd (let z : ◌≡◌ {A = ℕ} 0 1 = cc in let w : ⊥ = omega arith in w)
-due_by false true c d e = absurd (let z : ◌≡◌ {A = ℕ} 0 1 = cc in let w : ⊥ = omega arith in w)
-due_by false false true d e = absurd (let z : ◌≡◌ {A = ℕ} 0 1 = cc in let w : ⊥ = omega arith in w)
+due_by true b c d e = cc
+due_by false true c d e = cc
+due_by false false true d e = cc
 due_by false false false true e = (refl, refl, refl, refl)
-due_by false false false false e = absurd (let z : ◌≡◌ {A = ℕ} 0 1 = cc in let w : ⊥ = omega arith in w)
+due_by false false false false e = cc
 
 previous_by : (a b c d : Bool) → by_tests a b c d ≡ Previous → (a ≡ false) × (b ≡ false) × (c ≡ false) × (d ≡ false)
-previous_by true b c d e = absurd (let z : ◌≡◌ {A = ℕ} 0 1 = cc in let w : ⊥ = omega arith in w)
-previous_by false true c d e = absurd (let z : ◌≡◌ {A = ℕ} 0 1 = cc in let w : ⊥ = omega arith in w)
-previous_by false false true d e = absurd (let z : ◌≡◌ {A = ℕ} 0 1 = cc in let w : ⊥ = omega arith in w)
-previous_by false false false true e = absurd (let z : ◌≡◌ {A = ℕ} 0 1 = cc in let w : ⊥ = omega arith in w)
+previous_by true b c d e = cc
+previous_by false true c d e = cc
+previous_by false false true d e = cc
+previous_by false false false true e = cc
 previous_by false false false false e = (refl, refl, refl, refl)
 
 module _ (s t v h : ℕ) (xs : List Reading) where

@@ -1,29 +1,15 @@
--- Which replicas a list of slips is from: as a loop reads it, and when a slip is added.
-use Rattle.std.proofs.Common.{◌≡◌, ℕ, zero, suc, ◌+◌, ◌<◌, min, true, false, not, eqb, ltb, List, [], ◌∷◌, ◌++◌, length, get_or, take, set, sym, refl, ap, ◌∙◌, subst, inl, inr, le_of_suc-le-suc, not-suc-le-zero, add-one, arith}
+-- Which replicas a list of slips is from: by std's test, and when a slip is added.
+use Rattle.std.proofs.Common.{◌≡◌, ℕ, ◌+◌, min, true, false, not, ◌||◌, eqb, ltb, List, [], ◌∷◌, ◌++◌, length, take, set, sym, refl, ap, ◌∙◌, subst, inl, inr, arith}
 use Rattle.std.proofs.lemmas.Bool.Decides.{nat_tests}
 use Rattle.std.proofs.lemmas.Bool.{cases_lt, le-ltb, ltb-true, not-true, and_parts, and_right}
 use Rattle.std.proofs.lemmas.List.{take_more_set}
+use Rattle.std.specs.List.{list_any}
 use Rattle.quorum.specs.Tallies.{from, adds, Once}
 
--- a slip that stands in the list is from its replica
-pub from_at : {X : Type 0} (f : X → ℕ) (b : ℕ) (xs : List X) (i : ℕ) (d : X) → i < length xs → eqb (f (get_or xs i d)) b ≡ true → from f b xs ≡ true
-from_at f b [] i d k e = absurd (not-suc-le-zero k)
-from_at f b (x ∷ xs) zero d k e = grind arith
-from_at f b (x ∷ xs) (suc i) d k e =
-    let r : from f b xs ≡ true = from_at f b xs i d (le_of_suc-le-suc k) e in grind arith
-
-from_suc_no : {X : Type 0} (f : X → ℕ) (b : ℕ) (xs : List X) (i : ℕ) (d : X) → i < length xs → from f b (take i xs) ≡ false → eqb (f (get_or xs i d)) b ≡ false → from f b (take (suc i) xs) ≡ false
-from_suc_no f b [] i d k a e = refl
-from_suc_no f b (x ∷ xs) zero d k a e = grind arith
-from_suc_no f b (x ∷ xs) (suc i) d k a e =
-    let h : eqb (f x) b ≡ false = grind arith in
-    let t : from f b (take i xs) ≡ false = grind arith in
-    let r : from f b (take (suc i) xs) ≡ false = from_suc_no f b xs i d (le_of_suc-le-suc k) t e in
-    grind arith
-
--- one more slip that is not from b
-pub from_more_no : {X : Type 0} (f : X → ℕ) (b : ℕ) (xs : List X) (i : ℕ) (d : X) → i < length xs → from f b (take i xs) ≡ false → eqb (f (get_or xs i d)) b ≡ false → from f b (take (i + 1) xs) ≡ false
-from_more_no f b xs i d k a e = rw add-one (from_suc_no f b xs i d k a e)
+-- the same as std's test of any element
+pub from_is_any : {X : Type 0} (f : X → ℕ) (b : ℕ) (xs : List X) → list_any (λ x. eqb (f x) b) xs ≡ from f b xs
+from_is_any f b [] = refl
+from_is_any f b (x ∷ xs) = ap (λ r. eqb (f x) b || r) (from_is_any f b xs)
 
 from_push : {X : Type 0} (f : X → ℕ) (b : ℕ) (xs : List X) (y : X) → from f b xs ≡ false → eqb (f y) b ≡ false → from f b (xs ++ y ∷ []) ≡ false
 from_push f b [] y a e = grind arith

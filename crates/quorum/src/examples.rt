@@ -1,18 +1,21 @@
-// First rounds that mark the borders of the rules, with what each decides.
+//! First rounds that mark the borders of the rules, with what each decides.
 ghost use Rattle.std.specs.Prelude.{◌≡◌};
 ghost use Rattle.quorum.specs.Examples.{marked, reply_of, replies_of, shown_by, Stand};
 
 use crate::decide::{Decided, Verdict};
 use crate::slip::Reading;
 
-// Four of five replicas reply: the first `many` at version 1 with these marks and this note, the
-// others at version 0 with none. Mark 1 is the writer's, 2 and 4 are those of the two groups.
-#[derive(Clone, Copy)]
+/// Four of five replicas reply: the first `many` at version 1 with these marks and this note, the
+/// others at version 0 with none. Mark 1 is the writer's, 2 and 4 are those of the two groups.
+#[derive(Debug, Clone, Copy, PartialEq, Eq)]
 pub struct Example {
+    /// how many replies are at version 1
     pub many: u8,
+    /// the marks of each of them
     pub marks: u8,
+    /// the note of each of them
     pub note: u32,
-    // the version that the read shows, or none if it is due
+    /// the version that the read shows, or none if it is due
     pub shown: Option<u32>,
 }
 
@@ -73,7 +76,7 @@ const MARKED: [Example; 9] = [
     },
 ];
 
-// The marked examples.
+/// The marked examples.
 pub fn examples() -> [Example; 9]
     ensures { result ≡ marked }
 {
@@ -88,31 +91,26 @@ fn reply(e: Example, replica: u8) -> Reading
         Reading {
             replica,
             version: 1,
-            value: 0,
-            previous: 0,
             marks: e.marks,
             note: e.note,
+            ..Reading::default()
         }
     } else {
         Reading {
             replica,
-            version: 0,
-            value: 0,
-            previous: 0,
-            marks: 0,
-            note: 0,
+            ..Reading::default()
         }
     }
 }
 
-// The four replies of an example.
+/// The four replies of an example.
 pub fn replies(e: Example) -> [Reading; 4]
     ensures { result ≡ replies_of e }
 {
     [reply(e, 1), reply(e, 2), reply(e, 3), reply(e, 4)]
 }
 
-// The version that a read shows after its first round, or none if it is due.
+/// The version that a read shows after its first round, or none if it is due.
 pub fn shown(d: Decided) -> Option<u32>
     ensures { result ≡ shown_by d }
 {
@@ -123,7 +121,8 @@ pub fn shown(d: Decided) -> Option<u32>
     }
 }
 
-// The rules decide every marked example as marked.
+/// The rules decide every marked example as marked.
+#[tactic(auto, unfolding(crate::specs::Deciding::agreed, crate::specs::Deciding::decided_at))]
 pub fn examples_stand() -> u8
     ensures { Stand }
 {
@@ -133,12 +132,17 @@ pub fn examples_stand() -> u8
 #[cfg(test)]
 mod tests {
     use super::*;
-    use crate::decide::decide;
+    use crate::rule::Rule;
 
     #[test]
     fn examples_decide_as_marked(rt: HostRuntime) {
+        let rule = Rule {
+            replicas: 5,
+            tolerated: 1,
+            groups: 2,
+        };
         for e in examples() {
-            assert_eq!(rt; shown(decide(&replies(e), 5, 1, 2)), e.shown);
+            assert_eq!(rt; shown(rule.decide(&replies(e))), e.shown);
         }
     }
 }

@@ -1,72 +1,59 @@
-// What the replies of a first round say of the highest version among them.
-ghost use Rattle.std.specs.Prelude.{◌≡◌, max, not, ◌&&◌, ◌||◌, ◌==◌, nat_lt};
-ghost use Rattle.quorum.specs.Deciding.{highest_by, notes_at, lowest_at};
+//! What the replies of a first round say of the highest version among them.
+ghost use Rattle.std.specs.Prelude.{◌≡◌};
+ghost use Rattle.quorum.specs.Deciding.{highest_by, notes_at, lowest_in};
 
 use crate::slip::{Reading, VersionedSlip};
 
-// The higher of two versions.
-fn higher(a: u32, b: u32) -> u32
-    ensures { result ≡ max a b }
-{
-    if b > a { b } else { a }
-}
-
-// The highest version among the slips, 0 where there is none.
+/// The highest version among the slips, 0 where there is none.
+// Stays: the product's rules name this form: a loop over the reply slips.
 pub fn highest<T: VersionedSlip>(slips: &[T]) -> u32
     ensures { result ≡ highest_by T.version_of slips.now }
 {
-    let mut top = 0;
+    let mut top: u32 = 0;
     for s in slips {
-        top = higher(top, s.version());
+        top = top.max(s.version());
     }
     top
 }
 
-// Has the reply the note h?
-fn has_note(s: Reading, h: u32) -> bool
-    ensures { result ≡ (s.note == h) }
-{
-    s.note == h
-}
-
 // How many replies have the note h.
+// Stays: the product's rules name this form: a loop over the reply slips.
 pub(crate) fn notes_at(slips: &[Reading], h: u32) -> usize
     ensures { result ≡ notes_at h slips.now }
 {
     let mut n: usize = 0;
     for s in slips {
-        if has_note(*s, h) {
+        if s.note == h {
             n += 1;
         }
     }
     n
 }
 
-// Is the reply at version h, and of a lower replica than the lowest found, if any is?
-fn is_lower(s: Reading, h: u32, found: bool, lowest: Reading) -> bool
-    ensures { result ≡ (s.version == h && (not found || nat_lt s.replica lowest.replica)) }
+// The reply of the lowest replica among those at version h, the first of equals.
+pub(crate) fn lowest_in(slips: &[Reading], h: u32) -> Option<Reading>
+    ensures { result ≡ lowest_in h slips.now }
 {
-    s.version == h && (!found || s.replica < lowest.replica)
-}
-
-// The reply of the lowest replica among those at version h; all zeros where there is none.
-pub(crate) fn lowest_at(slips: &[Reading], h: u32) -> Reading
-    ensures { result ≡ lowest_at h slips.now }
-{
-    let mut found = false;
-    let mut lowest = Reading {
-        replica: 0,
-        version: 0,
-        value: 0,
-        previous: 0,
-        marks: 0,
-        note: 0,
-    };
+    let mut lowest: Option<Reading> = None;
     for s in slips {
-        if is_lower(*s, h, found, lowest) {
-            found = true;
-            lowest = *s;
+        if s.version == h && lowest.is_none_or(|l| s.replica < l.replica) {
+            lowest = Some(*s);
         }
     }
     lowest
+}
+
+#[cfg(test)]
+mod tests {
+    use super::*;
+    use wire::message::Message;
+
+    #[test]
+    fn reply_messages_name_versions(rt: HostRuntime) {
+        let replies = [3, 7, 5].map(|version| Message {
+            version,
+            ..Message::BLANK
+        });
+        assert_eq!(rt; highest(&replies), 7);
+    }
 }

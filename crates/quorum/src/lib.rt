@@ -1,11 +1,11 @@
-// Replies of one round: slips, counting them once per replica, and deciding a read.
+//! Replies of one round: slips, counting them once per replica, and deciding a read.
 #![tactic(auto)]
 
 pub mod agree;
 pub mod decide;
 pub mod examples;
 pub mod highest;
-pub mod readings;
-pub mod receipts;
+pub mod replies;
+pub mod rule;
 pub mod slip;
 pub mod tally;

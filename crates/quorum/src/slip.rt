@@ -1,9 +1,10 @@
-// What a client keeps of a reply: a bare receipt, or a reading.
+//! What a client keeps of a reply: a bare receipt, or a reading.
 ghost use Rattle.std.specs.Prelude.{◌≡◌, ℕ};
+ghost use Rattle.quorum.specs.Rounds.{receipt_of, reading_of};
 
 use wire::message::Message;
 
-// What names the replica that sent it.
+/// What names the replica that sent it.
 pub trait Slip {
     ghost sent_by: { Self → ℕ };
 
@@ -11,7 +12,7 @@ pub trait Slip {
         ensures { result ≡ sent_by self.now };
 }
 
-// What also names a version.
+/// What also names a version.
 pub trait VersionedSlip: Slip {
     ghost version_of: { Self → ℕ };
 
@@ -19,14 +20,14 @@ pub trait VersionedSlip: Slip {
         ensures { result ≡ version_of self.now };
 }
 
-// That a replica has replied to a write or a tell.
-#[derive(Clone, Copy)]
+/// That a replica has replied to a write or a tell.
+#[derive(Debug, Default, Clone, Copy, PartialEq, Eq)]
 pub struct Receipt {
     pub replica: u8,
 }
 
-// What a replica replied to a read.
-#[derive(Clone, Copy)]
+/// What a replica replied to a read.
+#[derive(Debug, Clone, Copy, PartialEq, Eq, Default)]
 pub struct Reading {
     pub replica: u8,
     pub version: u32,
@@ -41,6 +42,14 @@ impl Slip for Receipt {
 
     fn sender(&self) -> u8 {
         self.replica
+    }
+}
+
+impl From<Message> for Receipt {
+    ghost from_gives = { λ m r. r ≡ receipt_of m };
+
+    fn from(m: Message) -> Receipt {
+        Receipt { replica: m.replica }
     }
 }
 
@@ -60,7 +69,22 @@ impl VersionedSlip for Reading {
     }
 }
 
-// A reply message serves as a slip too.
+impl From<Message> for Reading {
+    ghost from_gives = { λ m r. r ≡ reading_of m };
+
+    fn from(m: Message) -> Reading {
+        Reading {
+            replica: m.replica,
+            version: m.version,
+            value: m.value,
+            previous: m.previous,
+            marks: m.marks,
+            note: m.note,
+        }
+    }
+}
+
+// Stays: the product's rules name this form: a reply message is a slip, and names a version, too.
 impl Slip for Message {
     ghost sent_by = { λ m. m.replica };
 

@@ -3,13 +3,11 @@ use Rattle.std.specs.Prelude.{ℕ, ◌+◌, ◌-◌, ◌*◌, Bool, false, cond,
 use Rattle.wire.specs.declared.message.Message.{Message}
 use Rattle.orders.specs.declared.answer.Answer.{Answer}
 use Rattle.orders.specs.declared.answer.Answer.TheVariants.{Replied, Lost, Ignored, Counted, Ended, BecameDue, Dropped}
-use Rattle.quorum.specs.declared.slip.Receipt.{Receipt}
-use Rattle.quorum.specs.declared.slip.Reading.{Reading}
 use Rattle.quorum.specs.declared.decide.Verdict.{Verdict}
 use Rattle.quorum.specs.declared.decide.Verdict.TheVariants.{Highest, Due as Delayed, Previous}
 use Rattle.quorum.specs.declared.decide.Decided.{Decided}
 use Rattle.quorum.specs.Tallies.{adds}
-use Rattle.quorum.specs.Rounds.{with_receipt, with_reading}
+use Rattle.quorum.specs.Rounds.{receipt_of, reading_of, with_receipt, with_reading}
 use Rattle.quorum.specs.Deciding.{decided}
 use Rattle.replica.specs.Replica.{delivered, delivered_reply}
 use Rattle.register.specs.declared.settings.Checked.{Checked}
@@ -28,13 +26,6 @@ awaited (Writing rs) = 4
 awaited (Asking rs) = 5
 awaited Due = 0
 awaited (Telling rs) = 6
-
--- what is kept of a reply
-abbrev pub receipt_of : Message → Receipt
-receipt_of m = record { replica = m.replica }
-
-abbrev pub reading_of : Message → Reading
-reading_of m = record { replica = m.replica; version = m.version; value = m.value; previous = m.previous; marks = m.marks; note = m.note }
 
 -- the reply's replica has not been counted
 abbrev pub uncounted : Phase → Message → Bool

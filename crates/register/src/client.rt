@@ -1,23 +1,23 @@
-// A client and the phase of its call.
-use quorum::readings::Readings;
-use quorum::receipts::Receipts;
+//! A client and the phase of its call.
+use quorum::replies::{Readings, Receipts};
 
-// What a client does at present, with the replies counted so far.
-#[derive(Clone, Copy)]
+/// What a client does at present, with the replies counted so far.
+#[derive(Debug, Clone, Copy)]
 pub enum Phase {
-    // no call is under way
+    /// no call is under way
     Idle,
-    // the writer awaits receipts of its write
+    /// the writer awaits receipts of its write
     Writing(Receipts),
-    // a reader awaits readings
+    /// a reader awaits readings
     Asking(Readings),
-    // a read was decided and awaits its tell
+    /// a read was decided and awaits its tell
     Due,
-    // a reader awaits receipts of its tell
+    /// a reader awaits receipts of its tell
     Telling(Receipts),
 }
 
-#[derive(Clone, Copy)]
+/// A client: withdrawn or not, its round, what it knows and its phase.
+#[derive(Debug, Clone, Copy)]
 pub struct Client {
     pub(crate) out: bool,
     // raised by every set of messages that it puts out

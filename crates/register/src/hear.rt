@@ -1,36 +1,18 @@
-// What a reply does at its client: counted or not, and deciding when the round is complete.
+//! What a reply does at its client: counted or not, and deciding when the round is complete.
 ghost use Rattle.std.specs.Prelude.{◌≡◌, ◌&&◌, if◌then◌else◌, ◌==◌};
 ghost use Rattle.quorum.specs.declared.decide.Decided.{Decided};
-ghost use Rattle.register.specs.Handling.{awaited, receipt_of, reading_of, uncounted, joined, tallied, quorum_of, knowing, phase_by, shown_by, completed, completion, ended_as, heard, heard_answer, is_complete};
+ghost use Rattle.register.specs.Handling.{awaited, uncounted, joined, tallied, quorum_of, knowing, phase_by, shown_by, completed, completion, ended_as, heard, heard_answer, is_complete};
 ghost use Rattle.register.specs.State.{in_phase};
 
 use crate::client::{Client, Phase};
 use crate::settings::Checked;
 use orders::answer::{Answer, Ending};
-use quorum::decide::{Decided, Verdict, decide};
-use quorum::slip::{Reading, Receipt};
+use quorum::decide::{Decided, Verdict};
+use quorum::rule::Rule;
 use wire::kind::Kind;
 use wire::message::Message;
 
-fn receipt(m: Message) -> Receipt
-    ensures { result ≡ receipt_of m }
-{
-    Receipt { replica: m.replica }
-}
-
-fn reading(m: Message) -> Reading
-    ensures { result ≡ reading_of m }
-{
-    Reading {
-        replica: m.replica,
-        version: m.version,
-        value: m.value,
-        previous: m.previous,
-        marks: m.marks,
-        note: m.note,
-    }
-}
-
+// The answer of a call that ends.
 fn ended(client: u8, version: u32, value: i32, rounds: u8) -> Answer
     ensures { result ≡ ended_as client version value rounds }
 {
@@ -44,14 +26,15 @@ fn ended(client: u8, version: u32, value: i32, rounds: u8) -> Answer
 
 impl Phase {
     // Counts a reply of the awaited kind, once per replica, in place.
+    // Stays: the product's rules name this form: a match on the client's phase and the message's kind.
     fn count(&mut self, m: Message) -> bool
         ensures said { result ≡ (m.kind == awaited self.old && uncounted self.old m) }
         ensures after { self.new ≡ (if result then joined self.old m else self.old) }
     {
         match (self, Kind::try_from(m.kind)) {
-            (Phase::Writing(receipts), Ok(Kind::WriteReply)) => receipts.add(receipt(m)),
-            (Phase::Asking(readings), Ok(Kind::ReadReply)) => readings.add(reading(m)),
-            (Phase::Telling(receipts), Ok(Kind::TellReply)) => receipts.add(receipt(m)),
+            (Phase::Writing(receipts), Ok(Kind::WriteReply)) => receipts.add(m.into()),
+            (Phase::Asking(readings), Ok(Kind::ReadReply)) => readings.add(m.into()),
+            (Phase::Telling(receipts), Ok(Kind::TellReply)) => receipts.add(m.into()),
             _ => false,
         }
     }
@@ -110,7 +93,12 @@ impl Client {
     {
         match &self.phase {
             Phase::Asking(readings) => {
-                let d = decide(readings.held(), k.replicas, k.tolerated, k.groups);
+                let rule = Rule {
+                    replicas: k.replicas,
+                    tolerated: k.tolerated,
+                    groups: k.groups,
+                };
+                let d = rule.decide(readings.held());
                 self.conclude(who, d)
             }
             Phase::Writing(_) => self.rest(who, 1),

@@ -1,4 +1,4 @@
-// Opening a register: the check, then at once the making.
+//! Opening a register: the check, then at once the making.
 ghost use Rattle.std.specs.Prelude.{◌≡◌, length, Some, None, MatchResult};
 ghost use Rattle.register.specs.Opening.{opening_fault, Opens};
 ghost use Rattle.register.specs.State.{opened, opened_client};
@@ -44,7 +44,7 @@ impl Register {
         }
     }
 
-    // Opens a register over a channel; a fault leaves nothing behind.
+    /// Opens a register over a channel; a fault leaves nothing behind.
     pub fn open<C: Channel>(s: Settings, c: &C) -> Result<Register, RegisterFault>
         ensures { MatchResult result (λ x. Opens s (C.held c.now) (C.places c.now) x) (λ e. opening_fault s (length (C.held c.now)) (C.places c.now) ≡ Some e) }
     {

@@ -5,8 +5,7 @@ ghost use Rattle.register.specs.State.{mark_of};
 
 use crate::client::{Client, Phase};
 use crate::settings::Checked;
-use quorum::readings::Readings;
-use quorum::receipts::Receipts;
+use quorum::replies::{Readings, Receipts};
 use wire::message::Message;
 
 // The mark of a client: bit 0 for the writer, bit 1 + its group for a reader.

@@ -1,4 +1,4 @@
-// One replica: what it keeps, and what a message does to it.
+//! One replica: what it keeps, and what a message does to it.
 #![tactic(auto)]
 
 pub mod record;

@@ -1,7 +1,8 @@
-// A replica's record: none exists whose note exceeds its version.
+//! What a replica works on.
 ghost use Rattle.std.specs.Prelude.{◌≤◌};
 
-#[derive(Clone, Copy)]
+/// A replica's record: none exists whose note exceeds its version.
+#[derive(Debug, Clone, Copy)]
 pub struct Replica {
     pub(crate) version: u32,
     pub(crate) value: i32,

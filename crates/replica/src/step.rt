@@ -1,16 +1,18 @@
-// How a record is made from its row and written back, and what a message does to it.
-ghost use Rattle.std.specs.Prelude.{◌≡◌};
-ghost use Rattle.replica.specs.Replica.{opened_row, plain, record_of, stepped, replied, delivered, delivered_reply};
+//! How a record is made from its row and written back, and what a message does to it.
+ghost use Rattle.std.specs.Prelude.{◌≡◌, ◌+◌, ◌<◌, Some};
+ghost use Rattle.wire.specs.Kinds.{kind_of, number_of};
+ghost use Rattle.replica.specs.Replica.{opened_row, plain, record_of, fresh, reply_from, stepped, replied, delivered, delivered_reply};
 
 use crate::record::Replica;
 use crate::row::Row;
+use wire::kind::Kind;
 use wire::message::Message;
 
-impl Replica {
-    // The record of a row, with the lower of the row's note and version as note.
-    pub fn of_row(row: Row) -> Replica
-        ensures { plain result ≡ record_of row }
-    {
+/// The record of a row, with the lower of the row's note and version as note.
+impl From<Row> for Replica {
+    ghost from_gives = { λ row r. plain r ≡ record_of row };
+
+    fn from(row: Row) -> Replica {
         let rounds = row.rounds;
         Replica {
             version: row.version,
@@ -21,61 +23,80 @@ impl Replica {
             rounds,
         }
     }
+}
 
-    // The row to write back.
-    pub fn row(&self) -> Row
-        ensures { result ≡ plain self.now }
-    {
+/// The row to write back.
+impl From<Replica> for Row {
+    ghost from_gives = { λ r row. row ≡ plain r };
+
+    fn from(record: Replica) -> Row {
+        let rounds = record.rounds;
         Row {
-            version: self.version,
-            value: self.value,
-            previous: self.previous,
-            marks: self.marks,
-            note: self.note,
-            rounds: self.rounds,
+            version: record.version,
+            value: record.value,
+            previous: record.previous,
+            marks: record.marks,
+            note: record.note,
+            rounds,
         }
     }
+}
 
-    // One message: stale ones change nothing and have no reply.
-    pub fn step(&mut self, m: Message) -> Option<Message>
-        ensures after { plain self.new ≡ stepped (plain self.old) m }
-        ensures reply { result ≡ replied (plain self.old) m }
+impl Replica {
+    // A fresh request: its round is recorded, and what it brings is taken.
+    fn take(&mut self, kind: Kind, m: Message)
+        requires client { m.client < 65 }
+        requires named { kind_of m.kind ≡ Some kind }
+        ensures { plain self.new ≡ fresh (plain self.old) m }
     {
-        let c = usize::from(m.client);
-        if m.kind < 1 || m.kind > 3 || c >= 65 {
-            return None;
-        }
-        if m.round <= self.rounds[c] {
-            return None;
-        }
-        self.rounds[c] = m.round;
+        self.rounds[usize::from(m.client)] = m.round;
         if m.version > self.version {
             self.version = m.version;
             self.value = m.value;
             self.previous = m.previous;
             self.marks = m.marks;
         } else {
-            self.marks = self.marks | m.marks;
+            self.marks |= m.marks;
         }
-        if m.kind == 3 && m.version > self.note {
-            self.note = m.version;
+        if kind == Kind::Tell {
+            self.note = self.note.max(m.version);
         }
-        Some(Message {
-            kind: m.kind + 3,
-            replica: m.replica,
-            client: m.client,
-            round: m.round,
+    }
+
+    // The reply to a message: its client and round, and what is held now.
+    fn reply(&self, kind: Kind, m: Message) -> Message
+        requires { number_of kind ≡ m.kind + 3 }
+        ensures { result ≡ reply_from (plain self.now) m }
+    {
+        Message {
+            kind: kind.into(),
             version: self.version,
             value: self.value,
             previous: self.previous,
             marks: self.marks,
             note: self.note,
-        })
+            ..m
+        }
+    }
+
+    /// One message: stale ones change nothing and have no reply.
+    pub fn step(&mut self, m: Message) -> Option<Message>
+        ensures after { plain self.new ≡ stepped (plain self.old) m }
+        ensures reply { result ≡ replied (plain self.old) m }
+    {
+        let kind = Kind::try_from(m.kind).ok()?;
+        let reply = kind.reply()?;
+        let last = *self.rounds.get(usize::from(m.client))?;
+        if m.round <= last {
+            return None;
+        }
+        self.take(kind, m);
+        Some(self.reply(reply, m))
     }
 }
 
 impl Row {
-    // A replica as it opens.
+    /// A replica as it opens.
     pub fn open(initial: i32) -> Row
         ensures { result ≡ opened_row initial }
     {
@@ -85,18 +106,20 @@ impl Row {
             previous: initial,
             marks: 0,
             note: 0,
+            // Stays: the product's rules name this form: the rounds open as an array of 65 zeros.
             rounds: [0u32; 65],
         }
     }
 
-    // One message at this row: its record is made, stepped and written back.
+    /// One message at this row: its record is made, stepped and written back.
+    // Stays: the product's rules name this form: one row is lent to the step, the others stay as they were.
     pub fn deliver(&mut self, m: Message) -> Option<Message>
         ensures after { self.new ≡ delivered self.old m }
         ensures reply { result ≡ delivered_reply self.old m }
     {
-        let mut record = Replica::of_row(*self);
+        let mut record = Replica::from(*self);
         let reply = record.step(m);
-        *self = record.row();
+        *self = record.into();
         reply
     }
 }

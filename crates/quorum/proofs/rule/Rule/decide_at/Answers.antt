@@ -1,0 +1,10 @@
+-- The parts of what is decided, each by its own call.
+use Rattle.std.proofs.Common.{rules}
+use Rattle.quorum.specs.Deciding.{decided_at}
+use Rattle.quorum.proofs.Lowest.{lowest_found}
+use Rattle.quorum.proofs.rule.Rule.decide_at.Goals as goal
+
+pub returns : goal.returns
+unfolding decided_at
+returns c =
+    let e = lowest_found c.args.h c.args.slips.now _ _ _ c.lowest_in.ensures c.unwrap_or_default-shown.ensures (λ y b. search rules) in search rules

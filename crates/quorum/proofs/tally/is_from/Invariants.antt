@@ -1,7 +1,0 @@
--- No slip so far is from the replica.
-use Rattle.std.proofs.Common.{◌≡◌, false, take}
-use Rattle.quorum.specs.Tallies.{from}
-use Rattle.quorum.proofs.tally.is_from.Given as goal
-
-abbrev pub invariant-loop-s : goal.invariant-loop-s
-invariant-loop-s g l = from g.T.Slip.sent_by l.replica (take l.s-index l.slips) ≡ false

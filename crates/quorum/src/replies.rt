@@ -1,0 +1,63 @@
+//! The slips that a client has counted in a round, in fixed memory.
+ghost use Rattle.std.specs.Prelude.{◌≡◌, take};
+ghost use Rattle.quorum.specs.Tallies.{adds};
+ghost use Rattle.quorum.specs.Rounds.{NoneCounted, with_slip};
+
+use crate::slip::{Reading, Receipt, Slip};
+use crate::tally::add_to;
+
+/// The slips of one round: the first got of 32 places; the others are free.
+// Stays: the library allocates nothing, so an array with a count beside it; both are public and copied, so no ghost field ties them.
+#[derive(Debug, Clone, Copy)]
+pub struct Replies<T> {
+    /// how many are counted
+    pub got: usize,
+    pub slips: [T; 32],
+}
+
+/// The receipts of a write's or a tell's round.
+pub type Receipts = Replies<Receipt>;
+
+/// The readings of a read's first round.
+pub type Readings = Replies<Reading>;
+
+impl<T: Slip + Default + Copy> Replies<T> {
+    /// None is counted yet.
+    pub fn none() -> Replies<T>
+        ensures { NoneCounted T.is_default result }
+    {
+        Replies {
+            got: 0,
+            slips: [T::default(); 32],
+        }
+    }
+}
+
+impl<T: Slip + Drop> Replies<T> {
+    /// Counts a slip of a replica that is not counted yet.
+    pub fn add(&mut self, s: T) -> bool
+        ensures said { result ≡ adds T.sent_by self.old.slips self.old.got s }
+        ensures after { self.new ≡ with_slip T.sent_by self.old s }
+    {
+        let fresh = add_to(&mut self.slips, self.got, s);
+        if fresh {
+            self.got += 1;
+        }
+        fresh
+    }
+
+    /// How many are counted.
+    pub fn count(&self) -> usize
+        ensures { result ≡ self.now.got }
+    {
+        self.got
+    }
+
+    /// The slips that are counted.
+    #[tactic(auto, using(std::proofs::lemmas::List::take_all))]
+    pub fn held(&self) -> &[T]
+        ensures { result.now ≡ take self.now.got self.now.slips }
+    {
+        self.slips.get(..self.got).unwrap_or(&self.slips)
+    }
+}
