@@ -99,6 +99,10 @@ is_due (Telling rs) = false
 abbrev pub no_reader : Register → ℕ → Bool
 no_reader r c = c == 0 || nat_lt r.settings.readers c
 
+-- why a reader cannot be called at all
+abbrev pub reader_refusal : Register → ℕ → Option Refusal
+reader_refusal r c = cond (no_reader r c) (Some Unknown) (cond (client_at r c).out (Some Withdrawn) None)
+
 -- room: the channel has a free place for each message of the set
 abbrev pub write_refusal : Register → Bool → ℤ → Option Refusal
 write_refusal r room z =

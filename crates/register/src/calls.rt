@@ -14,11 +14,13 @@ impl Register {
         ensures { Answered (world self.old (C.held c.old) (C.places c.old)) (Order.Write value) result (world self.new (C.held c.new) (C.places c.new)) }
     {
         let room = has_room(c, self.settings.replicas);
-        if let Some(refusal) = self.write_refusal(room, value) {
-            return Answer::Refused(refusal, 0);
+        match self.check_write(room, value) {
+            Ok(()) => {
+                self.begin_write(c, value);
+                Answer::Accepted(0)
+            }
+            Err(refusal) => Answer::Refused(refusal, 0),
         }
-        self.begin_write(c, value);
-        Answer::Accepted(0)
     }
 
     // A reader begins to read.
@@ -26,11 +28,13 @@ impl Register {
         ensures { Answered (world self.old (C.held c.old) (C.places c.old)) (Order.Read reader) result (world self.new (C.held c.new) (C.places c.new)) }
     {
         let room = has_room(c, self.settings.replicas);
-        if let Some(refusal) = self.read_refusal(room, reader) {
-            return Answer::Refused(refusal, reader);
+        match self.check_read(room, reader) {
+            Ok(_) => {
+                self.begin_read(c, reader);
+                Answer::Accepted(reader)
+            }
+            Err(refusal) => Answer::Refused(refusal, reader),
         }
-        self.begin_read(c, reader);
-        Answer::Accepted(reader)
     }
 
     // A reader whose read is due begins its second round.
@@ -38,33 +42,39 @@ impl Register {
         ensures { Answered (world self.old (C.held c.old) (C.places c.old)) (Order.Tell reader) result (world self.new (C.held c.new) (C.places c.new)) }
     {
         let room = has_room(c, 3 * self.settings.tolerated + 1);
-        if let Some(refusal) = self.tell_refusal(room, reader) {
-            return Answer::Refused(refusal, reader);
+        match self.check_tell(room, reader) {
+            Ok(_) => {
+                self.begin_tell(c, reader);
+                Answer::Accepted(reader)
+            }
+            Err(refusal) => Answer::Refused(refusal, reader),
         }
-        self.begin_tell(c, reader);
-        Answer::Accepted(reader)
     }
 
     // A replica is withdrawn.
     pub fn replica_out<C: Channel>(&mut self, c: &mut C, replica: u32) -> Answer
         ensures { Answered (world self.old (C.held c.old) (C.places c.old)) (Order.ReplicaOut replica) result (world self.new (C.held c.new) (C.places c.new)) }
     {
-        if let Some(refusal) = self.replica_out_refusal(replica) {
-            return Answer::Refused(refusal, replica);
+        match self.check_replica_out(replica) {
+            Ok(b) => {
+                self.out[b] = true;
+                self.outs += 1;
+                Answer::Accepted(replica)
+            }
+            Err(refusal) => Answer::Refused(refusal, replica),
         }
-        self.out[replica as usize] = true;
-        self.outs += 1;
-        Answer::Accepted(replica)
     }
 
     // A client is withdrawn.
     pub fn client_out<C: Channel>(&mut self, c: &mut C, client: u32) -> Answer
         ensures { Answered (world self.old (C.held c.old) (C.places c.old)) (Order.ClientOut client) result (world self.new (C.held c.new) (C.places c.new)) }
     {
-        if let Some(refusal) = self.client_out_refusal(client) {
-            return Answer::Refused(refusal, client);
+        match self.check_client_out(client) {
+            Ok(i) => {
+                self.clients[i].out = true;
+                Answer::Accepted(client)
+            }
+            Err(refusal) => Answer::Refused(refusal, client),
         }
-        self.clients[client as usize].out = true;
-        Answer::Accepted(client)
     }
 }

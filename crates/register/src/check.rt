@@ -1,6 +1,6 @@
 // The check that alone may refuse to open a register.
-ghost use Rattle.std.specs.Prelude.{◌≡◌, min, Bool, true, false, length, Some, None, MatchResult};
-ghost use Rattle.register.specs.Opening.{in_ranges, value_in_range, channel_fault, opening_fault, given};
+ghost use Rattle.std.specs.Prelude.{◌≡◌, length, IfOk};
+ghost use Rattle.register.specs.Opening.{in_ranges, value_in_range, channel_fault, opening_fault, FailsBy, given};
 
 use crate::fault::{ChannelFault, RegisterFault};
 use crate::settings::Checked;
@@ -11,26 +11,22 @@ use wire::channel::Channel;
 fn in_ranges(s: &Settings) -> bool
     ensures { result ≡ in_ranges s.now }
 {
-    s.replicas >= 4
-        && s.replicas <= 32
-        && s.tolerated >= 1
-        && s.tolerated <= 10
-        && s.groups >= 1
-        && s.groups <= 7
-        && s.readers >= 1
-        && s.readers <= 64
+    (4..=32).contains(&s.replicas)
+        && (1..=10).contains(&s.tolerated)
+        && (1..=7).contains(&s.groups)
+        && (1..=64).contains(&s.readers)
 }
 
 // Is the value within its range?
 pub(crate) fn value_in_range(value: i32) -> bool
     ensures { result ≡ value_in_range value }
 {
-    value >= -9_999_999 && value <= 9_999_999
+    (-9_999_999..=9_999_999).contains(&value)
 }
 
 // Is the channel empty, with a place for each replica?
 fn check_channel<C: Channel>(c: &C, replicas: u32) -> Result<(), ChannelFault>
-    ensures { MatchResult result (λ _. channel_fault (length (C.held c.now)) (C.places c.now) replicas ≡ None) (λ e. channel_fault (length (C.held c.now)) (C.places c.now) replicas ≡ Some e) }
+    ensures { FailsBy result (channel_fault (length (C.held c.now)) (C.places c.now) replicas) }
 {
     if c.waiting() > 0 {
         return Err(ChannelFault::NotEmpty);
@@ -43,7 +39,8 @@ fn check_channel<C: Channel>(c: &C, replicas: u32) -> Result<(), ChannelFault>
 
 // Settings that passed, or the first fault.
 pub(crate) fn check<C: Channel>(s: Settings, c: &C) -> Result<Checked, RegisterFault>
-    ensures { MatchResult result (λ k. (opening_fault s (length (C.held c.now)) (C.places c.now) ≡ None) × (given k ≡ s)) (λ e. opening_fault s (length (C.held c.now)) (C.places c.now) ≡ Some e) }
+    ensures fault { FailsBy result (opening_fault s (length (C.held c.now)) (C.places c.now)) }
+    ensures given { IfOk result (λ k. given k ≡ s) }
 {
     if !in_ranges(&s) {
         return Err(RegisterFault::Range);
