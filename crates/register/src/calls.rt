@@ -4,6 +4,7 @@ ghost use Rattle.register.specs.Past.{Answered, world};
 
 use crate::register::Register;
 use crate::send::has_room;
+use crate::start::Round;
 use orders::answer::Answer;
 use orders::order::Order;
 use wire::channel::Channel;
@@ -16,7 +17,7 @@ impl Register {
         let room = has_room(c, self.settings.replicas);
         match self.check_write(room, value) {
             Ok(()) => {
-                self.begin_write(c, value);
+                self.begin(c, Round::Write(value));
                 Answer::Accepted(0)
             }
             Err(refusal) => Answer::Refused(refusal, 0),
@@ -29,8 +30,8 @@ impl Register {
     {
         let room = has_room(c, self.settings.replicas);
         match self.check_read(room, reader) {
-            Ok(_) => {
-                self.begin_read(c, reader);
+            Ok(i) => {
+                self.begin(c, Round::Read(i));
                 Answer::Accepted(reader)
             }
             Err(refusal) => Answer::Refused(refusal, reader),
@@ -43,8 +44,8 @@ impl Register {
     {
         let room = has_room(c, 3 * self.settings.tolerated + 1);
         match self.check_tell(room, reader) {
-            Ok(_) => {
-                self.begin_tell(c, reader);
+            Ok(i) => {
+                self.begin(c, Round::Tell(i));
                 Answer::Accepted(reader)
             }
             Err(refusal) => Answer::Refused(refusal, reader),
