@@ -17,10 +17,7 @@ fn put_reply<C: Channel>(c: &mut C, reply: Option<Message>)
     ensures places { C.places c.old ≡ C.places c.new + length (option_to_list reply) }
 {
     if let Some(m) = reply {
-        match c.put(m) {
-            Ok(()) => {}
-            Err(_) => unreachable(),
-        }
+        c.put(m).unwrap();
     }
 }
 

@@ -4,6 +4,7 @@ ghost use Rattle.register.specs.Handling.{handled, handled_answer, handled_reply
 
 use crate::register::Register;
 use orders::answer::Answer;
+use wire::kind::Kind;
 use wire::message::Message;
 
 impl Register {
@@ -14,12 +15,15 @@ impl Register {
         ensures reply { result.1 ≡ handled_reply self.old m }
     {
         let k = self.settings;
-        if m.kind < 1 || m.kind > 6 || m.replica >= k.replicas || m.client > k.readers {
+        let Ok(kind) = Kind::try_from(m.kind) else {
+            return (Answer::Dropped, None);
+        };
+        if m.replica >= k.replicas || m.client > k.readers {
             return (Answer::Dropped, None);
         }
         let b = usize::from(m.replica);
         let c = usize::from(m.client);
-        if m.kind <= 3 {
+        if kind.is_request() {
             if self.out[b] {
                 return (Answer::Lost(m.client), None);
             }

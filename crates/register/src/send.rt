@@ -27,9 +27,6 @@ pub(crate) fn send<C: Channel>(c: &mut C, m: Message, count: u8)
     ensures places { C.places c.old ≡ C.places c.new + count }
 {
     for b in 0..count {
-        match c.put(to_replica(m, b)) {
-            Ok(()) => {}
-            Err(_) => unreachable(),
-        }
+        c.put(to_replica(m, b)).unwrap();
     }
 }
