@@ -15,11 +15,12 @@ impl Register {
         ensures within { result ≤ length answers.old }
         ensures settled { result < length answers.old → C.held c.new ≡ [] }
     {
-        let mut n: usize = 0;
-        while n < answers.len() && c.waiting() > 0 {
-            answers[n] = self.carry(c);
-            n += 1;
+        for (n, answer) in answers.iter_mut().enumerate() {
+            if c.waiting() == 0 {
+                return n;
+            }
+            *answer = self.carry(c);
         }
-        n
+        answers.len()
     }
 }
