@@ -22,15 +22,16 @@ impl Register {
         self.clients[who].message(&k, round.kind(), who as u8)
     }
 
+    // count: how many messages the round's set has.
     #[tactic(auto, using(crate::proofs::Sends::length_put_out))]
-    pub(crate) fn begin<C: Channel>(&mut self, c: &mut C, round: Round)
+    pub(crate) fn begin<C: Channel>(&mut self, c: &mut C, round: Round, count: u8)
         requires client { client_of round < 65 }
-        requires room { count_of self.old.settings round ≤ C.places c.old }
+        requires count { count ≡ count_of self.old.settings round }
+        requires room { count ≤ C.places c.old }
         ensures after { self.new ≡ accepted self.old (order_of round) }
         ensures waiting { IsPermutation (C.held c.new) (put_out self.old (order_of round) ++ C.held c.old) }
         ensures places { C.places c.old ≡ C.places c.new + length (put_out self.old (order_of round)) }
     {
-        let count = round.count(&self.settings);
         let m = self.enter(round);
         send(c, m, count);
     }

@@ -14,10 +14,10 @@ impl Register {
     pub fn write<C: Channel>(&mut self, c: &mut C, value: i32) -> Answer
         ensures { Answered (world self.old (C.held c.old) (C.places c.old)) (Order.Write value) result (world self.new (C.held c.new) (C.places c.new)) }
     {
-        let room = has_room(c, self.settings.replicas);
-        match self.check_write(room, value) {
+        let count = self.settings.replicas;
+        match self.check_write(has_room(c, count), value) {
             Ok(()) => {
-                self.begin(c, Round::Write(value));
+                self.begin(c, Round::Write(value), count);
                 Answer::Accepted(0)
             }
             Err(refusal) => Answer::Refused(refusal, 0),
@@ -28,10 +28,10 @@ impl Register {
     pub fn read<C: Channel>(&mut self, c: &mut C, reader: u32) -> Answer
         ensures { Answered (world self.old (C.held c.old) (C.places c.old)) (Order.Read reader) result (world self.new (C.held c.new) (C.places c.new)) }
     {
-        let room = has_room(c, self.settings.replicas);
-        match self.check_read(room, reader) {
+        let count = self.settings.replicas;
+        match self.check_read(has_room(c, count), reader) {
             Ok(i) => {
-                self.begin(c, Round::Read(i));
+                self.begin(c, Round::Read(i), count);
                 Answer::Accepted(reader)
             }
             Err(refusal) => Answer::Refused(refusal, reader),
@@ -42,10 +42,10 @@ impl Register {
     pub fn tell<C: Channel>(&mut self, c: &mut C, reader: u32) -> Answer
         ensures { Answered (world self.old (C.held c.old) (C.places c.old)) (Order.Tell reader) result (world self.new (C.held c.new) (C.places c.new)) }
     {
-        let room = has_room(c, 3 * self.settings.tolerated + 1);
-        match self.check_tell(room, reader) {
+        let count = 3 * self.settings.tolerated + 1;
+        match self.check_tell(has_room(c, count), reader) {
             Ok(i) => {
-                self.begin(c, Round::Tell(i));
+                self.begin(c, Round::Tell(i), count);
                 Answer::Accepted(reader)
             }
             Err(refusal) => Answer::Refused(refusal, reader),

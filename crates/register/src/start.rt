@@ -1,7 +1,7 @@
 //! A client starts a round, and what it puts out.
 ghost use Rattle.std.specs.Prelude.{◌≡◌};
 ghost use Rattle.wire.specs.Kinds.{number_of};
-ghost use Rattle.register.specs.Calls.{client_of, kind_of, count_of, started, outgoing};
+ghost use Rattle.register.specs.Calls.{client_of, kind_of, started, outgoing};
 ghost use Rattle.register.specs.State.{mark_of};
 
 use crate::client::{Client, Phase};
@@ -37,16 +37,6 @@ impl Round {
             Round::Write(_) => Kind::Write,
             Round::Read(_) => Kind::Read,
             Round::Tell(_) => Kind::Tell,
-        }
-    }
-
-    // How many messages its set has.
-    pub(crate) fn count(self, k: &Checked) -> u8
-        ensures { result ≡ count_of k.now self }
-    {
-        match self {
-            Round::Write(_) | Round::Read(_) => k.replicas,
-            Round::Tell(_) => 3 * k.tolerated + 1,
         }
     }
 }
