@@ -8,7 +8,7 @@ use Rattle.wire.proofs.Shuffles.{shuffled_mid}
 use Rattle.register.specs.declared.register.Register.{Register}
 use Rattle.register.specs.declared.start.Round.{Round}
 use Rattle.register.specs.declared.start.Round.TheVariants.{Write, Read, Tell}
-use Rattle.register.specs.Calls.{copies, toward, order_of, count_of, message_of, put_out}
+use Rattle.register.specs.Calls.{copies, toward, order_of, count_of, put_out}
 
 pub length_copies : (m : Message) (n : ℕ) → length (copies m n) ≡ n
 length_copies m zero = refl
@@ -24,6 +24,6 @@ one_more m x n before after first e had put =
 
 -- a round puts out one message for each of its replicas
 pub length_put_out : (r : Register) (q : Round) → length (put_out r (order_of q)) ≡ count_of r.settings q
-length_put_out r (Write z) = length_copies (message_of r (Write z)) _
-length_put_out r (Read c) = length_copies (message_of r (Read c)) _
-length_put_out r (Tell c) = length_copies (message_of r (Tell c)) _
+length_put_out r (Write z) = simp length_copies
+length_put_out r (Read c) = simp length_copies
+length_put_out r (Tell c) = simp length_copies

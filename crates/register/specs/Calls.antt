@@ -212,10 +212,6 @@ started c (WriteRound z) = writing c z
 started c (ReadRound r) = asking c
 started c (TellRound r) = telling c
 
--- its message, to each replica the same
-abbrev pub message_of : Register → Round → Message
-message_of r q = outgoing r.settings (kind_of q) (client_of q) (started (client_at r (client_of q)) q)
-
 -- whom an answer to the order names
 abbrev pub named : Order → ℕ
 named (Write z) = 0

@@ -1,27 +1,14 @@
 //! A round begins: the client's state changes, and its set of messages goes out.
 ghost use Rattle.std.specs.Prelude.{◌≡◌, ◌+◌, ◌<◌, ◌≤◌, ◌++◌, length};
 ghost use Rattle.std.specs.List.Sorted.{IsPermutation};
-ghost use Rattle.register.specs.Calls.{order_of, client_of, count_of, message_of, accepted, put_out};
+ghost use Rattle.register.specs.Calls.{order_of, client_of, count_of, accepted, put_out};
 
 use crate::register::Register;
 use crate::send::send;
 use crate::start::Round;
 use wire::channel::Channel;
-use wire::message::Message;
 
 impl Register {
-    // The round's message, and the register with the round begun.
-    fn enter(&mut self, round: Round) -> Message
-        requires { client_of round < 65 }
-        ensures after { self.new ≡ accepted self.old (order_of round) }
-        ensures said { result ≡ message_of self.old round }
-    {
-        let k = self.settings;
-        let who = round.client();
-        self.clients[who].start(round);
-        self.clients[who].message(&k, round.kind(), who as u8)
-    }
-
     // count: how many messages the round's set has.
     #[tactic(auto, using(crate::proofs::Sends::length_put_out))]
     pub(crate) fn begin<C: Channel>(&mut self, c: &mut C, round: Round, count: u8)
@@ -32,7 +19,10 @@ impl Register {
         ensures waiting { IsPermutation (C.held c.new) (put_out self.old (order_of round) ++ C.held c.old) }
         ensures places { C.places c.old ≡ C.places c.new + length (put_out self.old (order_of round)) }
     {
-        let m = self.enter(round);
+        let k = self.settings;
+        let who = round.client();
+        self.clients[who].start(round);
+        let m = self.clients[who].message(&k, round.kind(), who as u8);
         send(c, m, count);
     }
 }
