@@ -9,7 +9,7 @@ use crate::start::Round;
 use wire::channel::Channel;
 
 impl Register {
-    // count: how many messages the round's set has.
+    /// Starts the round and puts out its set of messages. count: how many these are, S, or 3t + 1 for a tell.
     #[tactic(auto, using(crate::proofs::Sends::length_put_out))]
     pub(crate) fn begin<C: Channel>(&mut self, c: &mut C, round: Round, count: u8)
         requires client { client_of round < 65 }

@@ -1,4 +1,4 @@
-// The calls that start something or withdraw someone.
+//! The calls that start something or withdraw someone.
 ghost use Rattle.std.specs.Prelude.{◌≡◌};
 ghost use Rattle.register.specs.Past.{Answered, world};
 
@@ -9,8 +9,10 @@ use orders::answer::Answer;
 use orders::order::Order;
 use wire::channel::Channel;
 
+// Stays: a register and its channel's messages and places stand in every call's contract: the product's rules hand a
+// channel to the register, which owns none.
 impl Register {
-    // The writer begins to write.
+    /// The writer begins to write. Sent back, the first that fits: `Withdrawn`, `Busy`, `ValueRange`, `RoundLimit`, `NoRoom`.
     pub fn write<C: Channel>(&mut self, c: &mut C, value: i32) -> Answer
         ensures { Answered (world self.old (C.held c.old) (C.places c.old)) (Order.Write value) result (world self.new (C.held c.new) (C.places c.new)) }
     {
@@ -24,7 +26,7 @@ impl Register {
         }
     }
 
-    // A reader begins to read.
+    /// Reader 1 to R begins to read. Sent back, the first that fits: `Unknown`, `Withdrawn`, `Busy`, `RoundLimit`, `NoRoom`.
     pub fn read<C: Channel>(&mut self, c: &mut C, reader: u32) -> Answer
         ensures { Answered (world self.old (C.held c.old) (C.places c.old)) (Order.Read reader) result (world self.new (C.held c.new) (C.places c.new)) }
     {
@@ -38,7 +40,7 @@ impl Register {
         }
     }
 
-    // A reader whose read is due begins its second round.
+    /// A reader whose read is due begins its second round. Sent back, the first that fits: `Unknown`, `Withdrawn`, `NotDue`, `NoRoom`.
     pub fn tell<C: Channel>(&mut self, c: &mut C, reader: u32) -> Answer
         ensures { Answered (world self.old (C.held c.old) (C.places c.old)) (Order.Tell reader) result (world self.new (C.held c.new) (C.places c.new)) }
     {
@@ -52,7 +54,7 @@ impl Register {
         }
     }
 
-    // A replica is withdrawn.
+    /// Replica 0 to S - 1 is withdrawn. Sent back, the first that fits: `Unknown`, `AlreadyOut`, `OutLimit`.
     pub fn replica_out<C: Channel>(&mut self, c: &mut C, replica: u32) -> Answer
         ensures { Answered (world self.old (C.held c.old) (C.places c.old)) (Order.ReplicaOut replica) result (world self.new (C.held c.new) (C.places c.new)) }
     {
@@ -66,7 +68,7 @@ impl Register {
         }
     }
 
-    // A client is withdrawn.
+    /// The writer, 0, or reader 1 to R is withdrawn. Sent back, the first that fits: `Unknown`, `Withdrawn`.
     pub fn client_out<C: Channel>(&mut self, c: &mut C, client: u32) -> Answer
         ensures { Answered (world self.old (C.held c.old) (C.places c.old)) (Order.ClientOut client) result (world self.new (C.held c.new) (C.places c.new)) }
     {

@@ -1,4 +1,4 @@
-// The check that alone may refuse to open a register.
+//! The check that alone may refuse to open a register.
 ghost use Rattle.std.specs.Prelude.{◌≡◌, length, IfOk};
 ghost use Rattle.register.specs.Opening.{in_ranges, value_in_range, channel_fault, opening_fault, FailsBy, given};
 
@@ -7,7 +7,7 @@ use crate::settings::Checked;
 use orders::settings::Settings;
 use wire::channel::Channel;
 
-// Is each number within its range?
+/// Is each number within its range?
 fn in_ranges(s: &Settings) -> bool
     ensures { result ≡ in_ranges s.now }
 {
@@ -17,14 +17,14 @@ fn in_ranges(s: &Settings) -> bool
         && (1..=64).contains(&s.readers)
 }
 
-// Is the value within its range?
+/// Is the value within its range?
 pub(crate) fn value_in_range(value: i32) -> bool
     ensures { result ≡ value_in_range value }
 {
     (-9_999_999..=9_999_999).contains(&value)
 }
 
-// Is the channel empty, with a place for each replica?
+/// Is the channel empty, with a place for each replica?
 fn check_channel<C: Channel>(c: &C, replicas: u32) -> Result<(), ChannelFault>
     ensures { FailsBy result (channel_fault (length (C.held c.now)) (C.places c.now) replicas) }
 {
@@ -37,7 +37,9 @@ fn check_channel<C: Channel>(c: &C, replicas: u32) -> Result<(), ChannelFault>
     Ok(())
 }
 
-// Settings that passed, or the first fault.
+/// Settings that passed, or the first fault.
+// Stays: no TryFrom of Settings, which would be no plainer: the check judges the channel too. Nor try_from for the four
+// numbers: the ranges stand above, and its error could never come.
 pub(crate) fn check<C: Channel>(s: Settings, c: &C) -> Result<Checked, RegisterFault>
     ensures fault { FailsBy result (opening_fault s (length (C.held c.now)) (C.places c.now)) }
     ensures given { IfOk result (λ k. given k ≡ s) }
@@ -51,6 +53,7 @@ pub(crate) fn check<C: Channel>(s: Settings, c: &C) -> Result<Checked, RegisterF
     if !value_in_range(s.initial) {
         return Err(RegisterFault::Initial);
     }
+    // Stays: the product's rules name this form: a channel's fault becomes the register's by `?`.
     check_channel(c, s.replicas)?;
     Ok(Checked {
         replicas: s.replicas as u8,

@@ -1,4 +1,4 @@
-// Handling one message: at its replica or at its client. No channel is touched.
+//! Handling one message: at its replica or at its client. No channel is touched.
 ghost use Rattle.std.specs.Prelude.{◌≡◌};
 ghost use Rattle.register.specs.Handling.{handled, handled_answer, handled_reply};
 
@@ -8,7 +8,8 @@ use wire::kind::Kind;
 use wire::message::Message;
 
 impl Register {
-    // Handles any message in any state; the reply of a replica, if any, is the caller's to send.
+    /// Handles any message in any state; the reply of a replica, if any, is the caller's to send. `Dropped` where no such kind,
+    /// replica or client is, `Lost` where the one addressed is out.
     pub fn handle(&mut self, m: Message) -> (Answer, Option<Message>)
         ensures after { self.new ≡ handled self.old m }
         ensures answer { result.0 ≡ handled_answer self.old m }
@@ -27,6 +28,7 @@ impl Register {
             if self.out[b] {
                 return (Answer::Lost(m.client), None);
             }
+            // Stays: the product's rules name this form: one row of the table is lent to the delivery step.
             match self.rows[b].deliver(m) {
                 Some(reply) => (Answer::Replied(m.client), Some(reply)),
                 None => (Answer::Ignored(m.client), None),

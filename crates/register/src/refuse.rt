@@ -23,9 +23,9 @@ impl Phase {
     }
 }
 
-// room: the channel has a free place for each message of the set. Where a number passes, its place
-// in the table is given.
+// A number that passes is given back as its place in the table.
 impl Register {
+    /// room: the channel has a free place for each message of the set.
     pub(crate) fn check_write(&self, room: bool, value: i32) -> Result<(), Refusal>
         ensures { FailsBy result (write_refusal self.now room value) }
     {
@@ -110,7 +110,7 @@ impl Register {
         Ok(c)
     }
 
-    // A reader that is known and not out.
+    /// A reader that is known and not out.
     fn check_reader(&self, reader: u32) -> Result<usize, Refusal>
         ensures said { FailsBy result (reader_refusal self.now reader) }
         ensures place { IfOk result (λ c. (c ≡ reader) × (c < 65)) }

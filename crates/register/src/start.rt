@@ -20,7 +20,7 @@ pub(crate) enum Round {
 }
 
 impl Round {
-    // The place of the client in the table.
+    /// The place of the client in the table.
     pub(crate) fn client(self) -> usize
         ensures { result ≡ client_of self }
     {
@@ -41,7 +41,7 @@ impl Round {
     }
 }
 
-// The mark of a client: bit 0 for the writer, bit 1 + its group for a reader.
+/// The mark of a client: bit 0 for the writer, bit 1 + its group for a reader.
 fn mark(k: &Checked, client: u8) -> u8
     ensures { result ≡ mark_of k.now client }
 {
@@ -52,6 +52,7 @@ fn mark(k: &Checked, client: u8) -> u8
 }
 
 impl Client {
+    /// One round more, in the phase that awaits its replies.
     pub(crate) fn start(&mut self, round: Round)
         ensures { self.new ≡ started self.old round }
     {
@@ -68,7 +69,7 @@ impl Client {
         }
     }
 
-    // A message of the client's present round.
+    /// A message of the client's present round.
     pub(crate) fn message(&self, k: &Checked, kind: Kind, client: u8) -> Message
         ensures { result ≡ outgoing k.now (number_of kind) client self.now }
     {
