@@ -196,12 +196,7 @@ kind_of (WriteRound z) = 1
 kind_of (ReadRound c) = 2
 kind_of (TellRound c) = 3
 
--- the client that begins it
-abbrev pub client_of : Round → ℕ
-client_of (WriteRound z) = 0
-client_of (ReadRound c) = c
-client_of (TellRound c) = c
-
+-- how many messages it puts out
 abbrev pub count_of : Checked → Round → ℕ
 count_of k (WriteRound z) = k.replicas
 count_of k (ReadRound c) = k.replicas

@@ -1,7 +1,7 @@
 //! A round begins: the client's state changes, and its set of messages goes out.
 ghost use Rattle.std.specs.Prelude.{◌≡◌, ◌+◌, ◌<◌, ◌≤◌, ◌++◌, length};
 ghost use Rattle.std.specs.List.Sorted.{IsPermutation};
-ghost use Rattle.register.specs.Calls.{order_of, client_of, count_of, accepted, put_out};
+ghost use Rattle.register.specs.Calls.{order_of, named, count_of, accepted, put_out};
 
 use crate::register::Register;
 use crate::send::send;
@@ -12,7 +12,7 @@ impl Register {
     /// Starts the round and puts out its set of messages. count: how many these are, S, or 3t + 1 for a tell.
     #[tactic(auto, using(crate::proofs::Sends::length_put_out))]
     pub(crate) fn begin<C: Channel>(&mut self, c: &mut C, round: Round, count: u8)
-        requires client { client_of round < 65 }
+        requires client { named (order_of round) < 65 }
         requires count { count ≡ count_of self.old.settings round }
         requires room { count ≤ C.places c.old }
         ensures after { self.new ≡ accepted self.old (order_of round) }

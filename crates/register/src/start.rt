@@ -1,7 +1,7 @@
 //! A client starts a round, and what it puts out.
 ghost use Rattle.std.specs.Prelude.{◌≡◌};
 ghost use Rattle.wire.specs.Kinds.{number_of};
-ghost use Rattle.register.specs.Calls.{client_of, kind_of, started, outgoing};
+ghost use Rattle.register.specs.Calls.{order_of, named, kind_of, started, outgoing};
 ghost use Rattle.register.specs.State.{mark_of};
 
 use crate::client::{Client, Phase};
@@ -22,7 +22,7 @@ pub(crate) enum Round {
 impl Round {
     /// The place of the client in the table.
     pub(crate) fn client(self) -> usize
-        ensures { result ≡ client_of self }
+        ensures { result ≡ named (order_of self) }
     {
         match self {
             Round::Write(_) => 0,
