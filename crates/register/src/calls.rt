@@ -9,8 +9,7 @@ use orders::answer::Answer;
 use orders::order::Order;
 use wire::channel::Channel;
 
-// Stays: a register and its channel's messages and places stand in every call's contract: the product's rules hand a
-// channel to the register, which owns none.
+// Stays: the product's rules hand each call a channel, which the register does not own: so every contract says the world of both.
 impl Register {
     /// The writer begins to write. Sent back, the first that fits: `Withdrawn`, `Busy`, `ValueRange`, `RoundLimit`, `NoRoom`.
     pub fn write<C: Channel>(&mut self, c: &mut C, value: i32) -> Answer

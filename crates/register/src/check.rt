@@ -38,8 +38,7 @@ fn check_channel<C: Channel>(c: &C, replicas: u32) -> Result<(), ChannelFault>
 }
 
 /// Settings that passed, or the first fault.
-// Stays: no TryFrom of Settings, which would be no plainer: the check judges the channel too. Nor try_from for the four
-// numbers: the ranges stand above, and its error could never come.
+// Stays: as a TryFrom of Settings no plainer: it judges the channel too.
 pub(crate) fn check<C: Channel>(s: Settings, c: &C) -> Result<Checked, RegisterFault>
     ensures fault { FailsBy result (opening_fault s (length (C.held c.now)) (C.places c.now)) }
     ensures given { IfOk result (λ k. given k ≡ s) }
@@ -55,6 +54,7 @@ pub(crate) fn check<C: Channel>(s: Settings, c: &C) -> Result<Checked, RegisterF
     }
     // Stays: the product's rules name this form: a channel's fault becomes the register's by `?`.
     check_channel(c, s.replicas)?;
+    // Stays: by try_from no plainer: the ranges are tested above, and its error could never come.
     Ok(Checked {
         replicas: s.replicas as u8,
         tolerated: s.tolerated as u8,

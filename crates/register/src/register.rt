@@ -11,8 +11,7 @@ pub struct Register {
     // Stays: no plainer to count them in the table at each withdrawal, which asks for the number alone.
     pub(crate) outs: u8,
     /// which replicas are out; the first S are in use
-    // Stays: no plainer as one table of pairs with the rows: being out is the register's affair and not the replica's,
-    // and the delivery step is lent a row alone.
+    // Stays: one table of pairs with the rows is no plainer: being out is the register's affair, and the delivery step is lent a row alone.
     pub(crate) out: [bool; 32],
     /// what each replica holds; the first S are in use
     pub(crate) rows: [Row; 32],
