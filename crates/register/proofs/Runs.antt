@@ -1,6 +1,6 @@
 -- One order more of a list, with its answer.
-use Rattle.std.proofs.Common.{◌≡◌, ℕ, ◌+◌, ◌<◌, List, [], ◌∷◌, ◌++◌, length, get_or, take, drop, set, sym, refl, ap, ◌∙◌, arith}
-use Rattle.std.proofs.lemmas.List.{take_more, take_more_set, drop-drop, drop-set-lt, map_push}
+use Rattle.std.proofs.Common.{◌≡◌, ℕ, ◌+◌, ◌<◌, List, [], ◌∷◌, ◌++◌, length, take, drop, set, sym, refl, ap, ◌∙◌, arith}
+use Rattle.std.proofs.lemmas.List.{take_more_set, drop-drop, drop-set-lt, map_push}
 use Rattle.orders.specs.declared.order.Order.{Order}
 use Rattle.orders.specs.declared.answer.Answer.{Answer}
 use Rattle.register.specs.Past.{World, Entry, start, more, Ran, Answered, sent_in}
@@ -19,13 +19,24 @@ ran_more v w u os rs o a h s =
       past = more w u h.entries e h.past (record { answered = s; sent = refl });
     }
 
--- the next order of a list, its answer filled in
-pub ran_next : (v w u : World) (os : List Order) (rs : List Answer) (i : ℕ) (d : Order) (a : Answer) → i < length os → i < length rs → Ran v (take i os) (take i rs) w → Answered w (get_or os i d) a u → Ran v (take (i + 1) os) (take (i + 1) (set rs i a)) u
-ran_next v w u os rs i d a h k ran s = rw (take_more os i d h, take_more_set rs i a k) (ran_more v w u (take i os) (take i rs) (get_or os i d) a ran s)
-
 module _ {B : Type 0} where
   -- what lies past the answers filled stays
   pub rest_more : (ys zs : List B) (i : ℕ) (y : B) → drop i ys ≡ drop i zs → drop (i + 1) (set ys i y) ≡ drop (i + 1) zs
   rest_more ys zs i y e =
       let lt : i < i + 1 = omega arith in
       drop-set-lt (i + 1) ys i y lt ∙ sym (drop-drop 1 i ys) ∙ ap (drop 1) e ∙ drop-drop 1 i zs
+
+-- a loop that fills answers: the first i are those of the orders done, and the later ones are what they were
+pub record Filled (v : World) (os : List Order) (before after : List Answer) (i : ℕ) (w : World) : Type 0 where
+  pub ran : Ran v os (take i after) w
+  pub later : drop i after ≡ drop i before
+
+pub filled_none : (v : World) (rs : List Answer) → Filled v [] rs rs 0 v
+filled_none v rs = record { ran = ran_none v; later = refl }
+
+pub filled_more : {v w u : World} {os : List Order} {before : List Answer} (after : List Answer) (i : ℕ) (o : Order) (a : Answer) → i < length after → Filled v os before after i w → Answered w o a u → Filled v (os ++ o ∷ []) before (set after i a) (i + 1) u
+filled_more {v} {w} {u} {os} {before} after i o a place h s =
+    record {
+      ran = rw (take_more_set after i a place) (ran_more v w u os (take i after) o a h.ran s);
+      later = rest_more after before i a h.later;
+    }

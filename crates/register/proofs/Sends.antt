@@ -1,11 +1,14 @@
 -- Sets of messages: how long, and one message more.
-use Rattle.std.proofs.Common.{◌≡◌, ℕ, zero, suc, ◌+◌, List, [], ◌∷◌, ◌++◌, length, refl, subst, append_assoc, add-one, arith}
+use Rattle.std.proofs.Common.{◌≡◌, ℕ, zero, suc, ◌+◌, List, [], ◌∷◌, ◌++◌, length, refl, append_assoc, add-one, arith}
 use Rattle.std.proofs.lemmas.List.{length_push}
 use Rattle.std.specs.List.Sorted.{IsPermutation}
 use Rattle.std.proofs.lemmas.List.Sorted.{IsPermutation-cons, IsPermutation-trans, IsPermutation-sym}
 use Rattle.wire.specs.declared.message.Message.{Message}
 use Rattle.wire.proofs.Shuffles.{shuffled_mid}
-use Rattle.register.specs.Calls.{copies, toward}
+use Rattle.register.specs.declared.register.Register.{Register}
+use Rattle.register.specs.declared.start.Round.{Round}
+use Rattle.register.specs.declared.start.Round.TheVariants.{Write, Read, Tell}
+use Rattle.register.specs.Calls.{copies, toward, order_of, count_of, put_out}
 
 pub length_copies : (m : Message) (n : ℕ) → length (copies m n) ≡ n
 length_copies m zero = refl
@@ -19,6 +22,8 @@ one_more m x n before after first e had put =
     rw (copies_more m n, append_assoc (copies m n) (toward m n ∷ []) first)
     (IsPermutation-trans _ _ _ (rw e at put) (IsPermutation-trans _ _ _ (IsPermutation-cons _ _ _ had) (IsPermutation-sym _ _ (shuffled_mid (copies m n) first (toward m n)))))
 
--- the same set, by another name of its message
-pub sent_as : (m n : Message) (count : ℕ) (hs first : List Message) → m ≡ n → IsPermutation hs (copies m count ++ first) → IsPermutation hs (copies n count ++ first)
-sent_as m n count hs first e h = subst (λ (x : Message). IsPermutation hs (copies x count ++ first)) e h
+-- a round puts out one message for each of its replicas
+pub length_put_out : (r : Register) (q : Round) → length (put_out r (order_of q)) ≡ count_of r.settings q
+length_put_out r (Write z) = simp length_copies
+length_put_out r (Read c) = simp length_copies
+length_put_out r (Tell c) = simp length_copies

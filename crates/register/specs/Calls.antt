@@ -9,6 +9,8 @@ use Rattle.orders.specs.declared.answer.Answer.{Answer}
 use Rattle.orders.specs.declared.answer.Answer.TheVariants.{Accepted, Refused}
 use Rattle.quorum.specs.Rounds.{no_receipts, no_readings}
 use Rattle.register.specs.declared.settings.Checked.{Checked}
+use Rattle.register.specs.declared.start.Round.{Round}
+use Rattle.register.specs.declared.start.Round.TheVariants.{Write as WriteRound, Read as ReadRound, Tell as TellRound}
 use Rattle.register.specs.declared.client.Phase.{Phase}
 use Rattle.register.specs.declared.client.Phase.TheVariants.{Idle, Writing, Asking, Due, Telling}
 use Rattle.register.specs.declared.client.Client.{Client}
@@ -99,6 +101,10 @@ is_due (Telling rs) = false
 abbrev pub no_reader : Register → ℕ → Bool
 no_reader r c = c == 0 || nat_lt r.settings.readers c
 
+-- why a reader cannot be called at all
+abbrev pub reader_refusal : Register → ℕ → Option Refusal
+reader_refusal r c = cond (no_reader r c) (Some Unknown) (cond (client_at r c).out (Some Withdrawn) None)
+
 -- room: the channel has a free place for each message of the set
 abbrev pub write_refusal : Register → Bool → ℤ → Option Refusal
 write_refusal r room z =
@@ -177,6 +183,29 @@ put_out r (Tell c) = copies (outgoing r.settings 3 c (telling (client_at r c))) 
 put_out r Carry = []
 put_out r (ReplicaOut b) = []
 put_out r (ClientOut c) = []
+
+-- ---- a round, as the order that begins it says
+
+abbrev pub order_of : Round → Order
+order_of (WriteRound z) = Write z
+order_of (ReadRound c) = Read c
+order_of (TellRound c) = Tell c
+
+abbrev pub kind_of : Round → ℕ
+kind_of (WriteRound z) = 1
+kind_of (ReadRound c) = 2
+kind_of (TellRound c) = 3
+
+-- how many messages it puts out
+abbrev pub count_of : Checked → Round → ℕ
+count_of k (WriteRound z) = k.replicas
+count_of k (ReadRound c) = k.replicas
+count_of k (TellRound c) = 3 * k.tolerated + 1
+
+abbrev pub started : Client → Round → Client
+started c (WriteRound z) = writing c z
+started c (ReadRound r) = asking c
+started c (TellRound r) = telling c
 
 -- whom an answer to the order names
 abbrev pub named : Order → ℕ

@@ -1,5 +1,5 @@
 -- Which settings open a register over which channel, and the number of each fault.
-use Rattle.std.specs.Prelude.{◌≡◌, ℕ, ◌+◌, ◌*◌, Bool, cond, not, ◌&&◌, List, length, ℤ, pos, negsuc, Some, None, Option, int_le, nat_le, nat_lt}
+use Rattle.std.specs.Prelude.{◌≡◌, ℕ, ◌+◌, ◌*◌, Bool, cond, not, ◌&&◌, List, length, ℤ, pos, negsuc, Some, None, Option, Result, MatchResult, int_le, nat_le, nat_lt}
 use Rattle.wire.specs.declared.message.Message.{Message}
 use Rattle.register.specs.declared.register.Register.{Register}
 use Rattle.register.specs.State.{opened}
@@ -9,6 +9,10 @@ use Rattle.register.specs.declared.fault.ChannelFault.{ChannelFault}
 use Rattle.register.specs.declared.fault.ChannelFault.TheVariants.{NotEmpty, TooFew}
 use Rattle.register.specs.declared.fault.RegisterFault.{RegisterFault}
 use Rattle.register.specs.declared.fault.RegisterFault.TheVariants.{Range, Overlap, Initial, Channel, Answers}
+
+-- a result fails by the first fault that fits, and only by one
+abbrev pub FailsBy : {A E : Type 0} → Result A E → Option E → Type 0
+FailsBy r fault = MatchResult r (λ _. fault ≡ None) (λ e. fault ≡ Some e)
 
 -- the number of a fault
 abbrev pub channel_fault_number : ChannelFault → ℕ

@@ -1,70 +1,82 @@
-// The calls that start something or withdraw someone.
+//! The calls that start something or withdraw someone.
 ghost use Rattle.std.specs.Prelude.{◌≡◌};
 ghost use Rattle.register.specs.Past.{Answered, world};
 
 use crate::register::Register;
 use crate::send::has_room;
+use crate::start::Round;
 use orders::answer::Answer;
 use orders::order::Order;
 use wire::channel::Channel;
 
+// Stays: the product's rules hand each call a channel, which the register does not own: so every contract says the world of both.
 impl Register {
-    // The writer begins to write.
+    /// The writer begins to write. Sent back, the first that fits: `Withdrawn`, `Busy`, `ValueRange`, `RoundLimit`, `NoRoom`.
     pub fn write<C: Channel>(&mut self, c: &mut C, value: i32) -> Answer
         ensures { Answered (world self.old (C.held c.old) (C.places c.old)) (Order.Write value) result (world self.new (C.held c.new) (C.places c.new)) }
     {
-        let room = has_room(c, self.settings.replicas);
-        if let Some(refusal) = self.write_refusal(room, value) {
-            return Answer::Refused(refusal, 0);
+        let count = self.settings.replicas;
+        match self.check_write(has_room(c, count), value) {
+            Ok(()) => {
+                self.begin(c, Round::Write(value), count);
+                Answer::Accepted(0)
+            }
+            Err(refusal) => Answer::Refused(refusal, 0),
         }
-        self.begin_write(c, value);
-        Answer::Accepted(0)
     }
 
-    // A reader begins to read.
+    /// Reader 1 to R begins to read. Sent back, the first that fits: `Unknown`, `Withdrawn`, `Busy`, `RoundLimit`, `NoRoom`.
     pub fn read<C: Channel>(&mut self, c: &mut C, reader: u32) -> Answer
         ensures { Answered (world self.old (C.held c.old) (C.places c.old)) (Order.Read reader) result (world self.new (C.held c.new) (C.places c.new)) }
     {
-        let room = has_room(c, self.settings.replicas);
-        if let Some(refusal) = self.read_refusal(room, reader) {
-            return Answer::Refused(refusal, reader);
+        let count = self.settings.replicas;
+        match self.check_read(has_room(c, count), reader) {
+            Ok(i) => {
+                self.begin(c, Round::Read(i), count);
+                Answer::Accepted(reader)
+            }
+            Err(refusal) => Answer::Refused(refusal, reader),
         }
-        self.begin_read(c, reader);
-        Answer::Accepted(reader)
     }
 
-    // A reader whose read is due begins its second round.
+    /// A reader whose read is due begins its second round. Sent back, the first that fits: `Unknown`, `Withdrawn`, `NotDue`, `NoRoom`.
     pub fn tell<C: Channel>(&mut self, c: &mut C, reader: u32) -> Answer
         ensures { Answered (world self.old (C.held c.old) (C.places c.old)) (Order.Tell reader) result (world self.new (C.held c.new) (C.places c.new)) }
     {
-        let room = has_room(c, 3 * self.settings.tolerated + 1);
-        if let Some(refusal) = self.tell_refusal(room, reader) {
-            return Answer::Refused(refusal, reader);
+        let count = 3 * self.settings.tolerated + 1;
+        match self.check_tell(has_room(c, count), reader) {
+            Ok(i) => {
+                self.begin(c, Round::Tell(i), count);
+                Answer::Accepted(reader)
+            }
+            Err(refusal) => Answer::Refused(refusal, reader),
         }
-        self.begin_tell(c, reader);
-        Answer::Accepted(reader)
     }
 
-    // A replica is withdrawn.
+    /// Replica 0 to S - 1 is withdrawn. Sent back, the first that fits: `Unknown`, `AlreadyOut`, `OutLimit`.
     pub fn replica_out<C: Channel>(&mut self, c: &mut C, replica: u32) -> Answer
         ensures { Answered (world self.old (C.held c.old) (C.places c.old)) (Order.ReplicaOut replica) result (world self.new (C.held c.new) (C.places c.new)) }
     {
-        if let Some(refusal) = self.replica_out_refusal(replica) {
-            return Answer::Refused(refusal, replica);
+        match self.check_replica_out(replica) {
+            Ok(b) => {
+                self.out[b] = true;
+                self.outs += 1;
+                Answer::Accepted(replica)
+            }
+            Err(refusal) => Answer::Refused(refusal, replica),
         }
-        self.out[replica as usize] = true;
-        self.outs += 1;
-        Answer::Accepted(replica)
     }
 
-    // A client is withdrawn.
+    /// The writer, 0, or reader 1 to R is withdrawn. Sent back, the first that fits: `Unknown`, `Withdrawn`.
     pub fn client_out<C: Channel>(&mut self, c: &mut C, client: u32) -> Answer
         ensures { Answered (world self.old (C.held c.old) (C.places c.old)) (Order.ClientOut client) result (world self.new (C.held c.new) (C.places c.new)) }
     {
-        if let Some(refusal) = self.client_out_refusal(client) {
-            return Answer::Refused(refusal, client);
+        match self.check_client_out(client) {
+            Ok(i) => {
+                self.clients[i].out = true;
+                Answer::Accepted(client)
+            }
+            Err(refusal) => Answer::Refused(refusal, client),
         }
-        self.clients[client as usize].out = true;
-        Answer::Accepted(client)
     }
 }

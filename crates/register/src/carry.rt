@@ -1,4 +1,4 @@
-// Carrying: one waiting message is taken from the channel and handled, and its reply put in.
+//! Carrying: one waiting message is taken from the channel and handled, and its reply put in.
 ghost use Rattle.std.specs.Prelude.{◌≡◌, ◌+◌, ◌≤◌, ◌++◌, length};
 ghost use Rattle.std.specs.Option.{option_to_list};
 ghost use Rattle.std.specs.List.Sorted.{IsPermutation};
@@ -10,22 +10,19 @@ use orders::order::Order;
 use wire::channel::Channel;
 use wire::message::Message;
 
-// Puts a replica's reply into the channel, where a place was just freed.
+/// Puts a replica's reply into the channel, where a place was just freed.
 fn put_reply<C: Channel>(c: &mut C, reply: Option<Message>)
     requires { 1 ≤ C.places c.old }
     ensures waiting { IsPermutation (C.held c.new) (option_to_list reply ++ C.held c.old) }
     ensures places { C.places c.old ≡ C.places c.new + length (option_to_list reply) }
 {
     if let Some(m) = reply {
-        match c.put(m) {
-            Ok(()) => {}
-            Err(_) => unreachable(),
-        }
+        c.put(m).unwrap();
     }
 }
 
 impl Register {
-    // For some message that waited, of the channel's choice, this is what the rules say of it.
+    /// For some message that waited, of the channel's choice, this is what the rules say of it. Sent back with `NothingWaits`.
     pub fn carry<C: Channel>(&mut self, c: &mut C) -> Answer
         ensures { Answered (world self.old (C.held c.old) (C.places c.old)) Order.Carry result (world self.new (C.held c.new) (C.places c.new)) }
     {

@@ -1,36 +1,32 @@
-// The check that alone may refuse to open a register.
-ghost use Rattle.std.specs.Prelude.{◌≡◌, min, Bool, true, false, length, Some, None, MatchResult};
-ghost use Rattle.register.specs.Opening.{in_ranges, value_in_range, channel_fault, opening_fault, given};
+//! The check that alone may refuse to open a register.
+ghost use Rattle.std.specs.Prelude.{◌≡◌, length, IfOk};
+ghost use Rattle.register.specs.Opening.{in_ranges, value_in_range, channel_fault, opening_fault, FailsBy, given};
 
 use crate::fault::{ChannelFault, RegisterFault};
 use crate::settings::Checked;
 use orders::settings::Settings;
 use wire::channel::Channel;
 
-// Is each number within its range?
+/// Is each number within its range?
 fn in_ranges(s: &Settings) -> bool
     ensures { result ≡ in_ranges s.now }
 {
-    s.replicas >= 4
-        && s.replicas <= 32
-        && s.tolerated >= 1
-        && s.tolerated <= 10
-        && s.groups >= 1
-        && s.groups <= 7
-        && s.readers >= 1
-        && s.readers <= 64
+    (4..=32).contains(&s.replicas)
+        && (1..=10).contains(&s.tolerated)
+        && (1..=7).contains(&s.groups)
+        && (1..=64).contains(&s.readers)
 }
 
-// Is the value within its range?
+/// Is the value within its range?
 pub(crate) fn value_in_range(value: i32) -> bool
     ensures { result ≡ value_in_range value }
 {
-    value >= -9_999_999 && value <= 9_999_999
+    (-9_999_999..=9_999_999).contains(&value)
 }
 
-// Is the channel empty, with a place for each replica?
+/// Is the channel empty, with a place for each replica?
 fn check_channel<C: Channel>(c: &C, replicas: u32) -> Result<(), ChannelFault>
-    ensures { MatchResult result (λ _. channel_fault (length (C.held c.now)) (C.places c.now) replicas ≡ None) (λ e. channel_fault (length (C.held c.now)) (C.places c.now) replicas ≡ Some e) }
+    ensures { FailsBy result (channel_fault (length (C.held c.now)) (C.places c.now) replicas) }
 {
     if c.waiting() > 0 {
         return Err(ChannelFault::NotEmpty);
@@ -41,9 +37,11 @@ fn check_channel<C: Channel>(c: &C, replicas: u32) -> Result<(), ChannelFault>
     Ok(())
 }
 
-// Settings that passed, or the first fault.
+/// Settings that passed, or the first fault.
+// Stays: as a TryFrom of Settings no plainer: it judges the channel too.
 pub(crate) fn check<C: Channel>(s: Settings, c: &C) -> Result<Checked, RegisterFault>
-    ensures { MatchResult result (λ k. (opening_fault s (length (C.held c.now)) (C.places c.now) ≡ None) × (given k ≡ s)) (λ e. opening_fault s (length (C.held c.now)) (C.places c.now) ≡ Some e) }
+    ensures fault { FailsBy result (opening_fault s (length (C.held c.now)) (C.places c.now)) }
+    ensures given { IfOk result (λ k. given k ≡ s) }
 {
     if !in_ranges(&s) {
         return Err(RegisterFault::Range);
@@ -54,7 +52,9 @@ pub(crate) fn check<C: Channel>(s: Settings, c: &C) -> Result<Checked, RegisterF
     if !value_in_range(s.initial) {
         return Err(RegisterFault::Initial);
     }
+    // Stays: the product's rules name this form: a channel's fault becomes the register's by `?`.
     check_channel(c, s.replicas)?;
+    // Stays: by try_from no plainer: the ranges are tested above, and its error could never come.
     Ok(Checked {
         replicas: s.replicas as u8,
         tolerated: s.tolerated as u8,

@@ -1,30 +1,33 @@
-// Why a register was not opened, or a list of orders not run.
+//! The faults of opening and running, and their numbers.
 ghost use Rattle.std.specs.Prelude.{◌≡◌};
 ghost use Rattle.register.specs.declared.fault.RegisterFault.TheVariants.{Channel};
 ghost use Rattle.register.specs.Opening.{fault_number};
 
-// The channel's own faults.
-#[derive(Clone, Copy)]
+/// Why a register cannot open over a channel.
+#[derive(Debug, Clone, Copy, PartialEq, Eq)]
 pub enum ChannelFault {
-    // messages already wait in it
+    /// messages already wait in it
     NotEmpty,
-    // it has fewer free places than there are replicas
+    /// it has fewer free places than there are replicas
     TooFew,
 }
 
-#[derive(Clone, Copy)]
+/// Why a register was not opened, or a list of orders not run.
+#[derive(Debug, Clone, Copy, PartialEq, Eq)]
 pub enum RegisterFault {
-    // a setting is outside its range
+    /// a setting is outside its range
     Range,
-    // too few replicas for so many groups and replicas out
+    /// too few replicas for so many groups and replicas out
     Overlap,
-    // the initial value is outside its range
+    /// the initial value is outside its range
     Initial,
+    /// the channel is not fit to open over
     Channel(ChannelFault),
-    // the answer list is shorter than the order list
+    /// the answer list is shorter than the order list
     Answers,
 }
 
+// Stays: the product's rules name this form: a channel's fault inside a register's, by From and `?`.
 impl From<ChannelFault> for RegisterFault {
     ghost from_gives = { λ a r. r ≡ Channel a };
 
@@ -34,6 +37,8 @@ impl From<ChannelFault> for RegisterFault {
 }
 
 impl RegisterFault {
+    /// The number that a listing shows, 1 to 6.
+    // Stays: no plainer as a From: it is one thing among others that a fault shows, and `fault.number()` names it.
     pub fn number(self) -> u32
         ensures { result ≡ fault_number self }
     {

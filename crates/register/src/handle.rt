@@ -1,28 +1,34 @@
-// Handling one message: at its replica or at its client. No channel is touched.
+//! Handling one message: at its replica or at its client. No channel is touched.
 ghost use Rattle.std.specs.Prelude.{◌≡◌};
 ghost use Rattle.register.specs.Handling.{handled, handled_answer, handled_reply};
 
 use crate::register::Register;
 use orders::answer::Answer;
+use wire::kind::Kind;
 use wire::message::Message;
 
 impl Register {
-    // Handles any message in any state; the reply of a replica, if any, is the caller's to send.
+    /// Handles any message in any state; the reply of a replica, if any, is the caller's to send. `Dropped` where no such kind,
+    /// replica or client is, `Lost` where the one addressed is out.
     pub fn handle(&mut self, m: Message) -> (Answer, Option<Message>)
         ensures after { self.new ≡ handled self.old m }
         ensures answer { result.0 ≡ handled_answer self.old m }
         ensures reply { result.1 ≡ handled_reply self.old m }
     {
         let k = self.settings;
-        if m.kind < 1 || m.kind > 6 || m.replica >= k.replicas || m.client > k.readers {
+        let Ok(kind) = Kind::try_from(m.kind) else {
+            return (Answer::Dropped, None);
+        };
+        if m.replica >= k.replicas || m.client > k.readers {
             return (Answer::Dropped, None);
         }
         let b = usize::from(m.replica);
         let c = usize::from(m.client);
-        if m.kind <= 3 {
+        if kind.is_request() {
             if self.out[b] {
                 return (Answer::Lost(m.client), None);
             }
+            // Stays: the product's rules name this form: one row of the table is lent to the delivery step.
             match self.rows[b].deliver(m) {
                 Some(reply) => (Answer::Replied(m.client), Some(reply)),
                 None => (Answer::Ignored(m.client), None),

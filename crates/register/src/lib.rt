@@ -1,4 +1,4 @@
-// The replicated register: opening it, its six calls, and lists of them.
+//! The replicated register: opening it, its six calls, and lists of them.
 #![tactic(auto)]
 
 pub(crate) mod begin;

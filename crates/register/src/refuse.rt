@@ -1,6 +1,7 @@
-// Why a call is sent back: the first refusal that fits, tried in rising order of the numbers.
-ghost use Rattle.std.specs.Prelude.{◌≡◌};
-ghost use Rattle.register.specs.Calls.{is_idle, is_due, write_refusal, read_refusal, tell_refusal, replica_out_refusal, client_out_refusal};
+//! Why a call is sent back: the first refusal that fits, tried in rising order of the numbers.
+ghost use Rattle.std.specs.Prelude.{◌≡◌, ◌<◌, IfOk};
+ghost use Rattle.register.specs.Opening.{FailsBy};
+ghost use Rattle.register.specs.Calls.{is_idle, is_due, write_refusal, read_refusal, tell_refusal, reader_refusal, replica_out_refusal, client_out_refusal};
 
 use crate::check::value_in_range;
 use crate::client::Phase;
@@ -12,110 +13,111 @@ impl Phase {
     fn is_idle(&self) -> bool
         ensures { result ≡ is_idle self.now }
     {
-        match self {
-            Phase::Idle => true,
-            Phase::Writing(_) | Phase::Asking(_) | Phase::Due | Phase::Telling(_) => false,
-        }
+        matches!(self, Phase::Idle)
     }
 
     fn is_due(&self) -> bool
         ensures { result ≡ is_due self.now }
     {
-        match self {
-            Phase::Due => true,
-            Phase::Idle | Phase::Writing(_) | Phase::Asking(_) | Phase::Telling(_) => false,
-        }
+        matches!(self, Phase::Due)
     }
 }
 
+// A number that passes is given back as its place in the table.
 impl Register {
-    // room: the channel has a free place for each message of the set.
-    pub(crate) fn write_refusal(&self, room: bool, value: i32) -> Option<Refusal>
-        ensures { result ≡ write_refusal self.now room value }
+    /// room: the channel has a free place for each message of the set.
+    pub(crate) fn check_write(&self, room: bool, value: i32) -> Result<(), Refusal>
+        ensures { FailsBy result (write_refusal self.now room value) }
     {
-        if self.clients[0].out {
-            return Some(Refusal::Withdrawn);
+        let writer = &self.clients[0];
+        if writer.out {
+            return Err(Refusal::Withdrawn);
         }
-        if !self.clients[0].phase.is_idle() {
-            return Some(Refusal::Busy);
+        if !writer.phase.is_idle() {
+            return Err(Refusal::Busy);
         }
         if !value_in_range(value) {
-            return Some(Refusal::ValueRange);
+            return Err(Refusal::ValueRange);
         }
-        if self.clients[0].round >= ROUNDS_MAX {
-            return Some(Refusal::RoundLimit);
+        if writer.round >= ROUNDS_MAX {
+            return Err(Refusal::RoundLimit);
         }
         if !room {
-            return Some(Refusal::NoRoom);
+            return Err(Refusal::NoRoom);
         }
-        None
+        Ok(())
     }
 
-    pub(crate) fn read_refusal(&self, room: bool, reader: u32) -> Option<Refusal>
-        ensures { result ≡ read_refusal self.now room reader }
+    pub(crate) fn check_read(&self, room: bool, reader: u32) -> Result<usize, Refusal>
+        ensures said { FailsBy result (read_refusal self.now room reader) }
+        ensures place { IfOk result (λ c. (c ≡ reader) × (c < 65)) }
     {
-        if reader == 0 || reader > u32::from(self.settings.readers) {
-            return Some(Refusal::Unknown);
-        }
-        let c = reader as usize;
-        if self.clients[c].out {
-            return Some(Refusal::Withdrawn);
-        }
+        let c = self.check_reader(reader)?;
         if !self.clients[c].phase.is_idle() {
-            return Some(Refusal::Busy);
+            return Err(Refusal::Busy);
         }
         if self.clients[c].round >= ROUNDS_MAX {
-            return Some(Refusal::RoundLimit);
+            return Err(Refusal::RoundLimit);
         }
         if !room {
-            return Some(Refusal::NoRoom);
+            return Err(Refusal::NoRoom);
         }
-        None
+        Ok(c)
     }
 
-    pub(crate) fn tell_refusal(&self, room: bool, reader: u32) -> Option<Refusal>
-        ensures { result ≡ tell_refusal self.now room reader }
+    pub(crate) fn check_tell(&self, room: bool, reader: u32) -> Result<usize, Refusal>
+        ensures said { FailsBy result (tell_refusal self.now room reader) }
+        ensures place { IfOk result (λ c. (c ≡ reader) × (c < 65)) }
     {
-        if reader == 0 || reader > u32::from(self.settings.readers) {
-            return Some(Refusal::Unknown);
-        }
-        let c = reader as usize;
-        if self.clients[c].out {
-            return Some(Refusal::Withdrawn);
-        }
+        let c = self.check_reader(reader)?;
         if !self.clients[c].phase.is_due() {
-            return Some(Refusal::NotDue);
+            return Err(Refusal::NotDue);
         }
         if !room {
-            return Some(Refusal::NoRoom);
+            return Err(Refusal::NoRoom);
         }
-        None
+        Ok(c)
     }
 
-    pub(crate) fn replica_out_refusal(&self, replica: u32) -> Option<Refusal>
-        ensures { result ≡ replica_out_refusal self.now replica }
+    pub(crate) fn check_replica_out(&self, replica: u32) -> Result<usize, Refusal>
+        ensures said { FailsBy result (replica_out_refusal self.now replica) }
+        ensures place { IfOk result (λ b. (b ≡ replica) × (b < 32)) }
     {
         if replica >= u32::from(self.settings.replicas) {
-            return Some(Refusal::Unknown);
+            return Err(Refusal::Unknown);
         }
-        if self.out[replica as usize] {
-            return Some(Refusal::AlreadyOut);
+        let b = replica as usize;
+        if self.out[b] {
+            return Err(Refusal::AlreadyOut);
         }
         if self.outs >= self.settings.tolerated {
-            return Some(Refusal::OutLimit);
+            return Err(Refusal::OutLimit);
         }
-        None
+        Ok(b)
     }
 
-    pub(crate) fn client_out_refusal(&self, client: u32) -> Option<Refusal>
-        ensures { result ≡ client_out_refusal self.now client }
+    pub(crate) fn check_client_out(&self, client: u32) -> Result<usize, Refusal>
+        ensures said { FailsBy result (client_out_refusal self.now client) }
+        ensures place { IfOk result (λ c. (c ≡ client) × (c < 65)) }
     {
         if client > u32::from(self.settings.readers) {
-            return Some(Refusal::Unknown);
+            return Err(Refusal::Unknown);
         }
-        if self.clients[client as usize].out {
-            return Some(Refusal::Withdrawn);
+        let c = client as usize;
+        if self.clients[c].out {
+            return Err(Refusal::Withdrawn);
         }
-        None
+        Ok(c)
+    }
+
+    /// A reader that is known and not out.
+    fn check_reader(&self, reader: u32) -> Result<usize, Refusal>
+        ensures said { FailsBy result (reader_refusal self.now reader) }
+        ensures place { IfOk result (λ c. (c ≡ reader) × (c < 65)) }
+    {
+        if reader == 0 {
+            return Err(Refusal::Unknown);
+        }
+        self.check_client_out(reader)
     }
 }

@@ -1,15 +1,20 @@
-// The register: settings, replicas and clients in fixed tables.
+//! The register: settings, replicas and clients in fixed tables.
 use crate::client::Client;
 use crate::settings::Checked;
 use replica::row::Row;
 
-// Tens of kilobytes: handed on by reference.
+/// Settings, replicas and clients. Tens of kilobytes: handed on by reference.
 #[derive(Drop)]
 pub struct Register {
     pub(crate) settings: Checked,
-    // how many replicas are out
+    /// how many replicas are out
+    // Stays: no plainer to count them in the table at each withdrawal, which asks for the number alone.
     pub(crate) outs: u8,
+    /// which replicas are out; the first S are in use
+    // Stays: one table of pairs with the rows is no plainer: being out is the register's affair, and the delivery step is lent a row alone.
     pub(crate) out: [bool; 32],
+    /// what each replica holds; the first S are in use
     pub(crate) rows: [Row; 32],
+    /// the writer at 0, reader c at c; the first R + 1 are in use
     pub(crate) clients: [Client; 65],
 }

@@ -1,4 +1,4 @@
-// Lists of orders: one answer for each.
+//! Lists of orders: one answer for each.
 ghost use Rattle.std.specs.Prelude.{◌≡◌, ◌<◌, ◌≤◌, length, take, drop, MatchResult};
 ghost use Rattle.register.specs.Past.{Answered, Ran, world};
 
@@ -9,7 +9,8 @@ use orders::order::Order;
 use wire::channel::Channel;
 
 impl Register {
-    // One order.
+    /// One order.
+    // Stays: an order is a value of a sheet, so an enum names the six calls; a table of functions would be no plainer.
     pub fn order<C: Channel>(&mut self, c: &mut C, o: Order) -> Answer
         ensures { Answered (world self.old (C.held c.old) (C.places c.old)) o result (world self.new (C.held c.new) (C.places c.new)) }
     {
@@ -23,7 +24,9 @@ impl Register {
         }
     }
 
-    // Does the orders and fills an answer for each; later answers keep what they held. Sent back whole where the answers are too few.
+    /// Does the orders and fills an answer for each; later answers keep what they held. Sent back whole, with `Answers`, where
+    /// the answers are fewer than the orders.
+    // Stays: two lists, since the orders are only read, and the answers are lent memory to fill (no heap).
     pub fn run<C: Channel>(
         &mut self,
         c: &mut C,
@@ -39,6 +42,7 @@ impl Register {
         if answers.len() < orders.len() {
             return Err(RegisterFault::Answers);
         }
+        // Stays: tried as a zip with iter_mut: the proof does not close, since nothing is known of what a zip's iter_mut wrote.
         for (i, o) in orders.iter().enumerate() {
             answers[i] = self.order(c, *o);
         }

@@ -1,4 +1,4 @@
-// Sets of messages: one to each of the first replicas, by rising number.
+//! Sets of messages: one to each of the first replicas, by rising number.
 ghost use Rattle.std.specs.Prelude.{◌≡◌, ◌+◌, ◌≤◌, ◌++◌, nat_le};
 ghost use Rattle.std.specs.List.Sorted.{IsPermutation};
 ghost use Rattle.register.specs.Calls.{copies, toward};
@@ -6,30 +6,28 @@ ghost use Rattle.register.specs.Calls.{copies, toward};
 use wire::channel::Channel;
 use wire::message::Message;
 
-// Has the channel so many free places?
+/// Has the channel so many free places?
 pub(crate) fn has_room<C: Channel>(c: &C, count: u8) -> bool
     ensures { result ≡ nat_le count (C.places c.now) }
 {
     c.free() >= u32::from(count)
 }
 
-// The same message, to the replica b.
+/// The same message, to the replica b.
 fn to_replica(m: Message, b: u8) -> Message
     ensures { result ≡ toward m b }
 {
     Message { replica: b, ..m }
 }
 
-// Puts in the message once for each of the replicas 0 to count - 1.
+/// Puts in the message once for each of the replicas 0 to count - 1.
 pub(crate) fn send<C: Channel>(c: &mut C, m: Message, count: u8)
     requires { count ≤ C.places c.old }
     ensures waiting { IsPermutation (C.held c.new) (copies m count ++ C.held c.old) }
     ensures places { C.places c.old ≡ C.places c.new + count }
 {
+    // Stays: b is no index counted by hand but a replica's number, which each message carries.
     for b in 0..count {
-        match c.put(to_replica(m, b)) {
-            Ok(()) => {}
-            Err(_) => unreachable(),
-        }
+        c.put(to_replica(m, b)).unwrap();
     }
 }

@@ -1,4 +1,4 @@
-// A session: opens a register and does a list of orders.
+//! A session: opens a register and does a list of orders.
 ghost use Rattle.std.specs.Prelude.{◌≡◌, ◌≤◌, length, take, drop, MatchResult};
 ghost use Rattle.register.specs.Past.{world};
 ghost use Rattle.register.specs.Session.{Session, NoSession};
@@ -10,7 +10,7 @@ use orders::order::Order;
 use orders::settings::Settings;
 use wire::channel::Channel;
 
-// The register as the orders leave it. A fault leaves channel and answers as they were.
+/// Opens a register and does the orders; gives the register as they leave it. A fault leaves channel and answers as they were.
 pub fn open_and_run<C: Channel>(
     s: Settings,
     c: &mut C,

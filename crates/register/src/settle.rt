@@ -1,4 +1,4 @@
-// Settling: carries until no message waits or the answer list is full.
+//! Settling: carries until no message waits or the answer list is full.
 ghost use Rattle.std.specs.Prelude.{◌≡◌, ◌<◌, ◌≤◌, [], length, take, drop, replicate};
 ghost use Rattle.register.specs.Past.{Ran, world};
 
@@ -8,18 +8,19 @@ use orders::order::Order;
 use wire::channel::Channel;
 
 impl Register {
-    // How many carries it did; later answers keep what they held.
+    /// Gives how many carries it did; later answers keep what they held.
     pub fn settle<C: Channel>(&mut self, c: &mut C, answers: &mut [Answer]) -> usize
         ensures carries { Ran (world self.old (C.held c.old) (C.places c.old)) (replicate result Order.Carry) (take result answers.new) (world self.new (C.held c.new) (C.places c.new)) }
         ensures later { drop result answers.new ≡ drop result answers.old }
         ensures within { result ≤ length answers.old }
         ensures settled { result < length answers.old → C.held c.new ≡ [] }
     {
-        let mut n: usize = 0;
-        while n < answers.len() && c.waiting() > 0 {
-            answers[n] = self.carry(c);
-            n += 1;
+        for (n, answer) in answers.iter_mut().enumerate() {
+            if c.waiting() == 0 {
+                return n;
+            }
+            *answer = self.carry(c);
         }
-        n
+        answers.len()
     }
 }

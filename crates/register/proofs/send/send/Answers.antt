@@ -5,6 +5,6 @@ use Rattle.register.proofs.send.send.Goals as goal
 
 pub loop-b-preserved : goal.loop-b-preserved
 loop-b-preserved g c =
-    let h = c.in-Ok.ensures in
+    let h = rw c.unwrap.ensures at c.put.ensures in
     let e : c.to_replica.result ≡ toward c.args.m c.loop-b.b = search rules in
     (one_more c.args.m c.to_replica.result c.loop-b.b _ _ _ e c.loop-b.invariant.0 h.0, omega (arith, c.loop-b.invariant.1, h.1))

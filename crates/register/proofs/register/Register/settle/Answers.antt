@@ -1,35 +1,14 @@
-use Rattle.std.proofs.Common.{◌<◌, length, refl, arith}
-use Rattle.std.proofs.lemmas.List.{nil_from_length, replicate_more, take_more_set}
+use Rattle.std.proofs.Common.{◌<◌, length, arith}
+use Rattle.std.proofs.lemmas.List.{replicate_more}
 use Rattle.orders.specs.declared.order.Order.TheVariants.{Carry}
-use Rattle.register.proofs.Runs.{ran_none, ran_more, rest_more}
+use Rattle.register.proofs.Runs.{filled_none, filled_more}
 use Rattle.register.proofs.register.Register.settle.Goals as goal
 
 pub loop-n-init : goal.loop-n-init
-loop-n-init g c = (ran_none _, refl, omega arith)
+loop-n-init g c = filled_none _ _
 
 pub loop-n-preserved : goal.loop-n-preserved
 loop-n-preserved g c =
-    let place : c.loop-n.n < length c.loop-n.answers = omega arith in (
-      rw (← replicate_more c.loop-n.n Carry, take_more_set c.loop-n.answers c.loop-n.n c.carry.result place)
-          (ran_more _ _ _ _ _ Carry c.carry.result c.loop-n.invariant.0 c.carry.ensures),
-      rest_more c.loop-n.answers c.args.answers.now c.loop-n.n _ c.loop-n.invariant.1,
-      omega arith,
-    )
-
-pub returns-else-waiting-gt0 : goal.returns-else-waiting-gt0
-returns-else-waiting-gt0 g c =
-    record {
-      carries = c.loop-n.invariant.0;
-      later = c.loop-n.invariant.1;
-      within = c.loop-n.invariant.2;
-      settled = λ _. nil_from_length _ (omega (arith, c.waiting.ensures));
-    }
-
-pub returns-after-loop-n : goal.returns-after-loop-n
-returns-after-loop-n g c =
-    record {
-      carries = c.loop-n.invariant.0;
-      later = c.loop-n.invariant.1;
-      within = c.loop-n.invariant.2;
-      settled = λ l. absurd (omega arith);
-    }
+    let place : c.loop-n.n < length c.loop-n.answers = omega arith in
+    rw (← replicate_more c.loop-n.n Carry)
+    (filled_more c.loop-n.answers c.loop-n.n Carry c.carry.result place c.loop-n.invariant c.carry.ensures)

@@ -1,15 +1,11 @@
-use Rattle.std.proofs.Common.{◌≡◌, ◌-◌, ◌≤◌, length, take, drop, replicate}
+use Rattle.std.proofs.Common.{replicate}
 use Rattle.orders.specs.declared.order.Order.TheVariants.{Carry}
-use Rattle.register.specs.Past.{Ran, world}
+use Rattle.register.specs.Past.{world}
+use Rattle.register.proofs.Runs.{Filled}
 use Rattle.register.proofs.register.Register.settle.Given as goal
 
 abbrev pub invariant-loop-n : goal.invariant-loop-n
 invariant-loop-n g l =
     let h = g.C.Channel.held in
     let p = g.C.Channel.places in
-    Ran (world l.initial.self (h l.initial.c) (p l.initial.c)) (replicate l.n Carry) (take l.n l.answers) (world l.self (h l.c) (p l.c))
-    × (drop l.n l.answers ≡ drop l.n l.initial.answers)
-    × (l.n ≤ length l.initial.answers)
-
-abbrev pub decreases-loop-n : goal.decreases-loop-n
-decreases-loop-n g l = length l.initial.answers - l.n
+    Filled (world l.initial.self (h l.initial.c) (p l.initial.c)) (replicate l.n Carry) l.initial.answers l.answers l.n (world l.self (h l.c) (p l.c))
