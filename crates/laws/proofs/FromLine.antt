@@ -1,6 +1,7 @@
 -- One line of the operations of a past, from the line of the model's calls. It ends in `from_line`.
 use Rattle.std.proofs.Common.{◌≡◌, ℕ, zero, suc, ◌≤◌, Bool, true, false, ◌⊎◌, List, [], ◌∷◌, map, ℤ, Some, None, Option, sym, refl, ap, ◌∙◌, subst, inl, inr, arith}
 use Rattle.std.specs.List.{ContainsAt as Has, AllByRecursion}
+use Rattle.std.proofs.lemmas.Option.{none-some, same_Some}
 use Rattle.std.proofs.ByRecursion.{All-weaker, all-has, All-map, all_has_itself}
 use Rattle.std.proofs.lemmas.Bool.{cases_Bool, cases_eq}
 use Rattle.orders.specs.declared.order.Order.{Order}
@@ -9,6 +10,7 @@ use Rattle.register.specs.Past.{Entry}
 use Rattle.laws.specs.Operations.{Operation, EndsAt, Ending, IsWrite, IsRead, Shown, Belongs}
 use Rattle.laws.specs.Laws.{Before, InOrder, NoTwice, ShowsNearest, OneLine}
 use Rattle.laws.proofs.Sets.{Lacks, Distinct}
+use Rattle.laws.proofs.Members.{has_here, has_there}
 use Rattle.laws.proofs.History.{Done, values, value_at, begun, done}
 use Rattle.laws.proofs.Line.{Op, op, Respects, Shows, ends_of, Pending, Line}
 use Rattle.laws.proofs.Line as model
@@ -32,12 +34,6 @@ has_map g [] x h = absurd (let r : ⊥ = omega (arith, h.1) in r)
 has_map g (y ∷ ys) x (zero, l, at) = (zero, omega arith, λ d. ap g (at x))
 has_map g (y ∷ ys) x (suc k, l, at) = let r = has_map g ys x (k, omega (arith, l), at) in (suc r.0, omega (arith, r.1), r.2)
 
-has_first : {X : Type 0} (x : X) (xs : List X) → Has (x ∷ xs) x
-has_first x xs = (0, omega arith, λ d. refl)
-
-has_later : {X : Type 0} (x y : X) (xs : List X) → Has xs y → Has (x ∷ xs) y
-has_later x y xs h = (suc h.0, omega (arith, h.1), h.2)
-
 abbrev made : ℕ → ℕ → Option ℕ → ℕ → ℤ → Operation
 made c b e v z = record { client = c; begin = b; end = e; version = v; value = z }
 
@@ -45,12 +41,6 @@ same_operation : (o p : Operation) → o.client ≡ p.client → o.begin ≡ p.b
 same_operation o p c b e v z =
     ap (λ i. made i o.begin o.end o.version o.value) c ∙ ap (λ i. made p.client i o.end o.version o.value) b ∙ ap (λ (t : Option ℕ). made p.client p.begin t o.version o.value) e
     ∙ ap (λ i. made p.client p.begin p.end i o.value) v ∙ ap (λ (i : ℤ). made p.client p.begin p.end p.version i) z
-
-some_same : (i j : ℕ) → ◌≡◌ {A = Option ℕ} (Some i) (Some j) → i ≡ j
-some_same i j e = cc
-
-none_some : (j : ℕ) → ◌≡◌ {A = Option ℕ} None (Some j) → ⊥
-none_some j e = let z : ◌≡◌ {A = ℕ} 0 1 = cc in omega arith
 
 write_same : (y z : ℤ) → Write y ≡ Write z → y ≡ z
 write_same y z e = cc
@@ -60,8 +50,8 @@ write_same y z e = cc
 before_of : (x y : Op) → Before (operation y) (operation x) → model.Before y x
 before_of x y h =
     elim (cases_Bool y.ended) [
-      | inl t ↦ (t, let e : y.end ≡ h.0 = some_same y.end h.0 (ap (λ b. end_of b y.end) (sym t) ∙ h.1) in omega (arith, e, h.2))
-      | inr t ↦ absurd (none_some h.0 (ap (λ b. end_of b y.end) (sym t) ∙ h.1))
+      | inl t ↦ (t, let e : y.end ≡ h.0 = same_Some y.end h.0 (ap (λ b. end_of b y.end) (sym t) ∙ h.1) in omega (arith, e, h.2))
+      | inr t ↦ absurd (none-some h.0 (ap (λ b. end_of b y.end) (sym t) ∙ h.1))
     ]
 
 in_order : (xs : List Op) → Respects xs → InOrder (map operation xs)
@@ -77,9 +67,9 @@ shows_nearest v z (x ∷ xs) (inr h) = inr (h.0, h.1, h.2, shows_nearest v z xs 
 shown_stands : (v : ℕ) (z : ℤ) (xs : List Op) → Shows v z xs → AllByRecursion (λ x. (x.client ≡ 0 → ⊥) → (x.version ≡ v) ⊎ ((y : Op) × Has xs y × (y.client ≡ 0) × (y.version ≡ x.version))) xs
 shown_stands v z [] h = tt
 shown_stands v z (x ∷ xs) (inl h) =
-    ((λ r. absurd (r h.0)), All-weaker _ _ (λ y p r. elim (p r) [ inl e ↦ inr (x, has_first x xs, h.0, sym e) | inr q ↦ inr (q.0, has_later x q.0 xs q.1, q.2, q.3) ]) xs (shown_stands x.version x.value xs h.1))
+    ((λ r. absurd (r h.0)), All-weaker _ _ (λ y p r. elim (p r) [ inl e ↦ inr (x, has_here x xs, h.0, sym e) | inr q ↦ inr (q.0, has_there x q.0 xs q.1, q.2, q.3) ]) xs (shown_stands x.version x.value xs h.1))
 shown_stands v z (x ∷ xs) (inr h) =
-    ((λ r. inl h.1), All-weaker _ _ (λ y p r. elim (p r) [ inl e ↦ inl e | inr q ↦ inr (q.0, has_later x q.0 xs q.1, q.2, q.3) ]) xs (shown_stands v z xs h.3))
+    ((λ r. inl h.1), All-weaker _ _ (λ y p r. elim (p r) [ inl e ↦ inl e | inr q ↦ inr (q.0, has_there x q.0 xs q.1, q.2, q.3) ]) xs (shown_stands v z xs h.3))
 
 -- ---- a log with its line
 
@@ -289,7 +279,7 @@ module _ (f : ℤ) (log : List Entry) (none : AllByRecursion NoReadOfWriter log)
           has_call s.call s.has o (same_operation _ o (s.client ∙ sym w.client) s.begin (ap Some s.end ∙ sym e) s.version s.value)
       go None e n =
           elim why [
-            | inl q ↦ absurd (none_some q.0 (sym e ∙ q.1))
+            | inl q ↦ absurd (none-some q.0 (sym e ∙ q.1))
             | inr q ↦ (let s = ended_read q.0 q.1 in has_unended o w e n s.call s.has (λ c. q.1.client (sym s.client ∙ c)) (s.version ∙ q.2))
           ]
 

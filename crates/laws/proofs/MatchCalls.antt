@@ -26,15 +26,16 @@ use Rattle.laws.proofs.Cards.{Card}
 use Rattle.laws.proofs.Model as model
 use Rattle.laws.proofs.Model.{entry, put, Msg, InW, Same, sent}
 use Rattle.laws.proofs.Matching.{params_of, msg_of, Proper, ReceiptsMatch, ReadingsMatch, PhasesMatch, RoundsLeft, ClientMatches, ClientsMatch, OutsMatch, RegisterMatches, Matches}
-use Rattle.laws.proofs.MatchTables.{each_set, each_set_beside, in_left, in_right, in_cases, same_self}
+use Rattle.laws.proofs.Waiting.{waits_behind}
+use Rattle.laws.proofs.MatchTables.{each_set, each_set_beside, in_left, in_cases, same_self}
 use Rattle.laws.proofs.MatchReached.{Reached, reached_with, refused_reaches}
 
 -- ---- the messages of a set
 
 same_append : (u v w : List Msg) → Same u v → Same (u ++ w) (v ++ w)
 same_append u v w s x = (
-  λ h. elim (in_cases x u w h) [ inl i ↦ in_left x v w ((s x).0 i) | inr i ↦ in_right x v w i ],
-  λ h. elim (in_cases x v w h) [ inl i ↦ in_left x u w ((s x).1 i) | inr i ↦ in_right x u w i ],
+  λ h. elim (in_cases x u w h) [ inl i ↦ in_left x v w ((s x).0 i) | inr i ↦ waits_behind x v w i ],
+  λ h. elim (in_cases x v w h) [ inl i ↦ in_left x u w ((s x).1 i) | inr i ↦ waits_behind x u w i ],
 )
 
 -- a message of a set, as the model has it
@@ -47,7 +48,7 @@ module _ (m : Message) (kd : model.Kind) (c r : ℕ) (d : Card) (is : (i : ℕ) 
   more_same n x h = (into, back)
     where
       into : InW x (sent kd c r d (suc n)) → InW x (map msg_of (copies m n) ++ msg_of (toward m n) ∷ [])
-      into (inl e) = in_right x (map msg_of (copies m n)) (msg_of (toward m n) ∷ []) (inl (e ∙ sym (is n)))
+      into (inl e) = waits_behind x (map msg_of (copies m n)) (msg_of (toward m n) ∷ []) (inl (e ∙ sym (is n)))
       into (inr i) = in_left x (map msg_of (copies m n)) (msg_of (toward m n) ∷ []) (h.0 i)
 
       last : InW x (msg_of (toward m n) ∷ []) → InW x (sent kd c r d (suc n))

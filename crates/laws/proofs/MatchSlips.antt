@@ -1,54 +1,19 @@
 -- Sets of slips and counts of readings: a set of m exists exactly if at least m readings pass. It ends in `count_from_several`.
-use Rattle.std.proofs.Common.{◌≡◌, ℕ, suc, ◌≤◌, Bool, true, cond, eqb, ◌⊎◌, List, [], ◌∷◌, map, reverse, length, count_by, filter, sym, refl, ap, ◌∙◌, subst, inl, inr, arith}
+use Rattle.std.proofs.Common.{◌≡◌, ℕ, ◌≤◌, Bool, true, List, [], ◌∷◌, map, reverse, length, count_by, filter, sym, refl, ap, subst, inl, inr, arith}
 use Rattle.std.specs.List.{ContainsAt as Has, AllByRecursion}
 use Rattle.std.proofs.lemmas.List.{reverse-reverse, length-map}
 use Rattle.std.proofs.ByRecursion.{All-map, all-has, all_has_itself, all_kept_by, All-weaker, kept_by_passes}
 use Rattle.std.proofs.lemmas.List.Sums.{length-filter}
-use Rattle.std.proofs.lemmas.Bool.{cond_both, both_ways, eqb-true, eqb-false}
+use Rattle.std.proofs.lemmas.Bool.{cond_both, both_ways}
 use Rattle.quorum.specs.declared.slip.Reading.{Reading}
 use Rattle.quorum.specs.Tallies.{Once}
 use Rattle.quorum.proofs.Sets.{chosen_map, chosen_once}
-use Rattle.laws.proofs.Sets.{Lacks, Distinct}
+use Rattle.laws.proofs.Sets.{Distinct}
 use Rattle.laws.proofs.Cards.{Card, Slip, replicas_of, Several}
+use Rattle.laws.proofs.Members.{Among, no_longer}
+use Rattle.laws.proofs.Slips.{all_replicas, length_replicas}
 use Rattle.laws.proofs.Matching.{reading_slip, ReadingsAre}
 use Rattle.laws.proofs.MatchCounting.{all_reverse, lacks_from_not, reading_from}
-
--- ---- distinct numbers, all in another list, are no more than it has
-
-abbrev Among : ℕ → List ℕ → Type 0
-Among x [] = ⊥
-Among x (y ∷ ys) = (x ≡ y) ⊎ Among x ys
-
-abbrev without : ℕ → List ℕ → List ℕ
-without x [] = []
-without x (y ∷ ys) = cond (eqb x y) ys (y ∷ without x ys)
-
-without_less : (x : ℕ) (ys : List ℕ) → Among x ys → suc (length (without x ys)) ≤ length ys
-without_less x [] h = elim h [ ]
-without_less x (y ∷ ys) (inl e) =
-    cond_both (eqb x y) ys (y ∷ without x ys) (λ zs. suc (length zs) ≤ suc (length ys)) (λ q. omega arith) (λ q. absurd (eqb-false x y q e))
-without_less x (y ∷ ys) (inr h) =
-    let ih : suc (length (without x ys)) ≤ length ys = without_less x ys h in
-    cond_both (eqb x y) ys (y ∷ without x ys) (λ zs. suc (length zs) ≤ suc (length ys)) (λ q. omega arith) (λ q. omega arith)
-
-without_keeps : (x z : ℕ) (ys : List ℕ) → (z ≡ x → ⊥) → Among z ys → Among z (without x ys)
-without_keeps x z [] n h = elim h [ ]
-without_keeps x z (y ∷ ys) n (inl e) =
-    cond_both (eqb x y) ys (y ∷ without x ys) (λ zs. Among z zs) (λ q. absurd (n (e ∙ sym (eqb-true x y q)))) (λ q. inl e)
-without_keeps x z (y ∷ ys) n (inr h) =
-    let ih : Among z (without x ys) = without_keeps x z ys n h in
-    cond_both (eqb x y) ys (y ∷ without x ys) (λ zs. Among z zs) (λ q. h) (λ q. inr ih)
-
-all_kept_without : (x : ℕ) (ys zs : List ℕ) → Lacks x zs → AllByRecursion (λ z. Among z ys) zs → AllByRecursion (λ z. Among z (without x ys)) zs
-all_kept_without x ys [] a b = tt
-all_kept_without x ys (z ∷ zs) a b = (without_keeps x z ys (λ e. a.0 (sym e)) b.0, all_kept_without x ys zs a.1 b.1)
-
-no_longer : (xs ys : List ℕ) → Distinct xs → AllByRecursion (λ x. Among x ys) xs → length xs ≤ length ys
-no_longer [] ys d h = omega arith
-no_longer (x ∷ xs) ys d h =
-    let ih : length xs ≤ length (without x ys) = no_longer xs (without x ys) d.1 (all_kept_without x ys xs d.0 h.1) in
-    let l : suc (length (without x ys)) ≤ length ys = without_less x ys h.0 in
-    omega arith
 
 -- ---- readings and their slips
 
@@ -63,14 +28,6 @@ replicas_map (x ∷ xs) = ap (λ ys. x.replica ∷ ys) (replicas_map xs)
 distinct_from_once : (xs : List Reading) → Once reading_from xs → Distinct (map reading_from xs)
 distinct_from_once [] o = tt
 distinct_from_once (x ∷ xs) o = (lacks_from_not reading_from x.replica xs o.0, distinct_from_once xs o.1)
-
-length_replicas : (ss : List Slip) → length (replicas_of ss) ≡ length ss
-length_replicas [] = refl
-length_replicas (s ∷ ss) = ap suc (length_replicas ss)
-
-all_replicas : (P : ℕ → Type 0) (ss : List Slip) → AllByRecursion (λ s. P s.replica) ss → AllByRecursion P (replicas_of ss)
-all_replicas P [] h = tt
-all_replicas P (s ∷ ss) h = (h.0, all_replicas P ss h.1)
 
 -- every reading passes into the count of those that pass
 passes_in : (p : Reading → Bool) (xs : List Reading) → AllByRecursion (λ x. p x ≡ true → Among x.replica (map reading_from (filter p xs))) xs

@@ -51,10 +51,6 @@ in_left x [] w h = elim h [ ]
 in_left x (y ∷ v) w (inl e) = inl e
 in_left x (y ∷ v) w (inr h) = inr (in_left x v w h)
 
-pub in_right : (x : Msg) (v w : List Msg) → InW x w → InW x (v ++ w)
-in_right x [] w h = h
-in_right x (y ∷ v) w h = inr (in_right x v w h)
-
 pub in_cases : (x : Msg) (v w : List Msg) → InW x (v ++ w) → InW x v ⊎ InW x w
 in_cases x [] w h = inr h
 in_cases x (y ∷ v) w (inl e) = inl (inl e)

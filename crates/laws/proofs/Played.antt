@@ -1,12 +1,12 @@
 -- Concrete pasts: every list of moves is a past, and five of them give the answers expected.
-use Rattle.std.proofs.Common.{◌≡◌, ℕ, zero, suc, ◌≤◌, Bool, true, false, cond, not, leb, List, [], ◌∷◌, ◌++◌, map, length, ℤ, Some, None, Option, refl, ap, subst, inl, inr, append_assoc, arith, lit≤}
+use Rattle.std.proofs.Common.{◌≡◌, ℕ, zero, suc, ◌≤◌, Bool, true, false, cond, not, leb, List, [], ◌∷◌, ◌++◌, map, length, ℤ, Some, None, Option, refl, subst, inl, inr, append_assoc, arith, lit≤}
 use mathlib.Core.Path.{subst⁻¹}
 use Rattle.std.specs.List.Sorted.{IsPermutation}
+use Rattle.std.proofs.lemmas.List.{append-nil}
 use Rattle.std.proofs.lemmas.Bool.{leb-true}
-use Rattle.std.proofs.lemmas.List.Sorted.{IsPermutation-refl, IsPermutation-cons, IsPermutation-trans, IsPermutation-sym}
+use Rattle.std.proofs.lemmas.List.Sorted.{IsPermutation-refl, IsPermutation-cons, IsPermutation-trans, IsPermutation-middle, IsPermutation-append_comm}
 use Rattle.std.specs.Option.{option_to_list}
 use Rattle.wire.specs.declared.message.Message.{Message}
-use Rattle.wire.proofs.Shuffles.{shuffled_mid}
 use Rattle.orders.specs.declared.order.Order.{Order}
 use Rattle.orders.specs.declared.order.Order.TheVariants.{Write, Read, Tell, Carry, ReplicaOut, ClientOut}
 use Rattle.orders.specs.declared.answer.Refusal.{Refusal}
@@ -22,25 +22,12 @@ use Rattle.register.specs.Past.{World, sent_by, Entry, Called, Carried, Step, Pa
 use Rattle.register.proofs.Sends.{length_copies}
 use Rattle.laws.specs.Examples.{Move, ith, others, called, called_to, given, given_to, carried, carried_to, entry_by, next_by, next, played, reached, Example, opening, entries_of, Holds, Stand}
 
--- ---- the channel's list
-
-module _ {X : Type 0} where
-  append-nil : (xs : List X) → xs ++ [] ≡ xs
-  append-nil [] = refl
-  append-nil (x ∷ xs) = ap (λ l. x ∷ l) (append-nil xs)
-
-  -- what stands behind may stand in front
-  shuffled_turn : (xs ys : List X) → IsPermutation (xs ++ ys) (ys ++ xs)
-  shuffled_turn [] ys = subst⁻¹ (λ (l : List X). IsPermutation ys l) (append-nil ys) (IsPermutation-refl ys)
-  shuffled_turn (x ∷ xs) ys =
-      IsPermutation-trans _ _ _ (IsPermutation-cons x _ _ (shuffled_turn xs ys)) (IsPermutation-sym _ _ (shuffled_mid ys xs x))
-
 -- the message chosen, then the others
 chosen_first : (m : Message) (ms : List Message) (i : ℕ) → IsPermutation (m ∷ ms) (ith m ms i ∷ others m ms i)
 chosen_first m ms zero = IsPermutation-refl (m ∷ ms)
 chosen_first m [] (suc i) = IsPermutation-refl (m ∷ [])
 chosen_first m (n ∷ ms) (suc i) =
-    IsPermutation-trans _ _ _ (IsPermutation-cons m _ _ (chosen_first n ms i)) (shuffled_mid (m ∷ []) (others n ms i) (ith n ms i))
+    IsPermutation-trans _ _ _ (IsPermutation-cons m _ _ (chosen_first n ms i)) (IsPermutation-middle (m ∷ []) (ith n ms i) (others n ms i))
 
 -- ---- a place is free for each message of an accepted call
 
@@ -109,7 +96,7 @@ call_steps v o =
     record {
       answer = refl;
       register = refl;
-      waiting = shuffled_turn v.waiting (sent_by v o);
+      waiting = IsPermutation-append_comm v.waiting (sent_by v o);
       places = omega (arith, fits v o);
     }
 
@@ -125,7 +112,7 @@ give_steps v m rest s =
       waited = s;
       answer = refl;
       register = refl;
-      waiting = shuffled_turn rest (option_to_list (handled_reply v.register m));
+      waiting = IsPermutation-append_comm rest (option_to_list (handled_reply v.register m));
       places = omega (arith, one_reply (handled_reply v.register m));
     }
 
