@@ -84,7 +84,7 @@ mark_byte k c =
 -- ---- refusals
 
 not_refused : (b : Bool) (x : Refusal) (y : Option Refusal) → cond b (Some x) y ≡ None → (b ≡ false) × (y ≡ None)
-not_refused true x y e = absurd (let z : ◌≡◌ {A = ℕ} 0 1 = cc in let w : ⊥ = omega arith in w)
+not_refused true x y e = grind arith
 not_refused false x y e = (refl, e)
 
 -- what an accepted write, read and tell passed
@@ -116,17 +116,17 @@ reader_below r c e = ltb-false r.settings.readers c (or_parts (eqb c 0) (ltb r.s
 
 idle_matches : (k : Checked) (p : Phase) (q : model.Phase) → is_idle p ≡ true → PhasesMatch k p q → q ≡ model.idle
 idle_matches k Idle q e h = h
-idle_matches k (Writing rs) q e h = absurd (let z : ◌≡◌ {A = ℕ} 0 1 = cc in let w : ⊥ = omega arith in w)
-idle_matches k (Asking rs) q e h = absurd (let z : ◌≡◌ {A = ℕ} 0 1 = cc in let w : ⊥ = omega arith in w)
-idle_matches k Due q e h = absurd (let z : ◌≡◌ {A = ℕ} 0 1 = cc in let w : ⊥ = omega arith in w)
-idle_matches k (Telling rs) q e h = absurd (let z : ◌≡◌ {A = ℕ} 0 1 = cc in let w : ⊥ = omega arith in w)
+idle_matches k (Writing rs) q e h = grind arith
+idle_matches k (Asking rs) q e h = grind arith
+idle_matches k Due q e h = grind arith
+idle_matches k (Telling rs) q e h = grind arith
 
 due_matches : (k : Checked) (p : Phase) (q : model.Phase) (n : ℕ) → is_due p ≡ true → PhasesMatch k p q → RoundsLeft p n → (q ≡ model.due) × (n ≤ 2000000)
-due_matches k Idle q n e h l = absurd (let z : ◌≡◌ {A = ℕ} 0 1 = cc in let w : ⊥ = omega arith in w)
-due_matches k (Writing rs) q n e h l = absurd (let z : ◌≡◌ {A = ℕ} 0 1 = cc in let w : ⊥ = omega arith in w)
-due_matches k (Asking rs) q n e h l = absurd (let z : ◌≡◌ {A = ℕ} 0 1 = cc in let w : ⊥ = omega arith in w)
+due_matches k Idle q n e h l = grind arith
+due_matches k (Writing rs) q n e h l = grind arith
+due_matches k (Asking rs) q n e h l = grind arith
 due_matches k Due q n e h l = (h, l)
-due_matches k (Telling rs) q n e h l = absurd (let z : ◌≡◌ {A = ℕ} 0 1 = cc in let w : ⊥ = omega arith in w)
+due_matches k (Telling rs) q n e h l = grind arith
 
 -- ---- clients that start a round
 
@@ -201,7 +201,7 @@ module _ (k : Checked) (log : List Entry) (v w : World) (b : model.State) (t : m
       (λ i. cc) (lit≤ tt) (lit≤ tt) refl (mark_byte r.settings 0) (sym all) (omega arith) reg s
 
   pub asked_reaches : (c : ℕ) → refusal r v.places (Read c) ≡ None → w.register ≡ accepted r (Read c) → IsPermutation w.waiting (put_out r (Read c) ++ v.waiting) → Reached k (entry (Read c) (Accepted c) ms ∷ log) w
-  asked_reaches zero e reg s = absurd (let z : ◌≡◌ {A = ℕ} 0 1 = cc in let w : ⊥ = omega arith in w)
+  asked_reaches zero e reg s = grind arith
   asked_reaches (suc c) e reg s =
       let p = read_passed r (leb (calls.all_of r) v.places) (suc c) e in
       let same : r.settings ≡ k = h.register.settings in
@@ -225,7 +225,7 @@ module _ (k : Checked) (log : List Entry) (v w : World) (b : model.State) (t : m
       (λ i. cc) (lit≤ tt) (lit≤ tt) refl (mark_byte r.settings (suc c)) (sym all) (omega arith) reg s
 
   pub told_reaches : (c : ℕ) → refusal r v.places (Tell c) ≡ None → w.register ≡ accepted r (Tell c) → IsPermutation w.waiting (put_out r (Tell c) ++ v.waiting) → Reached k (entry (Tell c) (Accepted c) ms ∷ log) w
-  told_reaches zero e reg s = absurd (let z : ◌≡◌ {A = ℕ} 0 1 = cc in let w : ⊥ = omega arith in w)
+  told_reaches zero e reg s = grind arith
   told_reaches (suc c) e reg s =
       let p = tell_passed r (leb (calls.told_of r) v.places) (suc c) e in
       let same : r.settings ≡ k = h.register.settings in

@@ -127,8 +127,8 @@ module _ (k : Checked) (log : List Entry) (w : World) (r : Register) (m : Messag
     -- ---- any round that is complete
     ends_round : AllJudged → (p : Phase) (a : Answer) → PhasesMatch k p y.phase → RoundsLeft p x.round → eqb m.kind (awaited p) ≡ true → uncounted p m ≡ true → is_complete k (joined p m) ≡ true
         → a ≡ completion_in k m.client (in_phase x (joined p m)) (joined p m) → w.register ≡ with_client r m.client (completed_in k (in_phase x (joined p m)) (joined p m)) → Reached k (entry Carry a ms ∷ log) w
-    ends_round judge Idle a h l e u c an re = absurd (let z : ◌≡◌ {A = ℕ} 0 1 = cc in let w : ⊥ = omega arith in w)
-    ends_round judge Due a h l e u c an re = absurd (let z : ◌≡◌ {A = ℕ} 0 1 = cc in let w : ⊥ = omega arith in w)
+    ends_round judge Idle a h l e u c an re = grind arith
+    ends_round judge Due a h l e u c an re = grind arith
     ends_round judge (Writing rs) a h l e u c an re =
         let t : ReceiptsCounted (k.replicas - k.tolerated) rs h.0 m = receipts_counted (k.replicas - k.tolerated) rs h.0 m h.2 u in
         let total : (with_receipt rs (receipt_of m)).got ≡ suc (length h.0) = t.total in

@@ -17,12 +17,12 @@ use Rattle.laws.specs.Laws.{Laws}
 use Rattle.laws.specs.Performing.{LawfulSession}
 
 no_cond : {A : Type 0} (b : Bool) (x : A) (o : Option A) → cond b (Some x) o ≡ None → o ≡ None
-no_cond true x o e = let z : ◌≡◌ {A = ℕ} 0 1 = cc in absurd (omega arith)
+no_cond true x o e = grind arith
 no_cond false x o e = e
 
 no_fault : (o : Option ChannelFault) → in_channel o ≡ None → o ≡ None
 no_fault None e = refl
-no_fault (Some f) e = let z : ◌≡◌ {A = ℕ} 0 1 = cc in absurd (omega arith)
+no_fault (Some f) e = grind arith
 
 channel_fine : (waiting places replicas : ℕ) → channel_fault waiting places replicas ≡ None → (waiting ≡ 0) × (replicas ≤ places)
 channel_fine waiting places replicas e = (grind (arith, nat_tests), grind (arith, nat_tests))
