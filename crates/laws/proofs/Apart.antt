@@ -1,10 +1,7 @@
 -- Constructors that differ, and what follows from taking them for one: ends in `awaiting_not_idle`.
-use Rattle.std.proofs.Common.{◌≡◌, Bool, true, false, List, arith}
+use Rattle.std.proofs.Common.{◌≡◌, List, arith}
 use Rattle.laws.proofs.Cards.{Slip}
 use Rattle.laws.proofs.Model.{Kind, writes, reads, tells, idle, due, awaiting}
-
-pub true_false : {A : Type 0} (b : Bool) → b ≡ true → b ≡ false → A
-true_false b p q = grind arith
 
 pub reads_not_writes : reads ≡ writes → ⊥
 reads_not_writes e = grind arith

@@ -1,6 +1,6 @@
 -- Calls come to an end: ends in `tells_calls`, the list of the ended calls is what the log says, and `all_end`, with no message waiting every call has ended or awaits its tell.
 use Rattle.std.proofs.Common.{◌≡◌, ℕ, suc, true, false, eqb, ◌⊎◌, List, [], ◌∷◌, length, ℤ, sym, refl, ap, ◌∙◌, subst, inl, inr, arith}
-use Rattle.std.proofs.lemmas.Bool.{cases_Bool, cases_eq, eqb-false}
+use Rattle.std.proofs.lemmas.Bool.{cases_Bool, cases_eq, eqb-false, false≢true}
 use Rattle.std.specs.List.{AllByRecursion}
 use Rattle.wire.specs.declared.message.Message.{Message}
 use Rattle.orders.specs.Answers.{listed_as}
@@ -13,7 +13,7 @@ use Rattle.laws.proofs.Model.{put, Kind, writes, reads, Phase, idle, due, awaiti
 use Rattle.laws.proofs.History.{begun, done}
 use Rattle.laws.proofs.Calls.{Starts, BeginsAt, NextEnd, AwaitsTell, Withdrawn, AllEnd, Tells}
 use Rattle.laws.proofs.Tables.{put_case, put_two}
-use Rattle.laws.proofs.Apart.{true_false, awaiting_not_due, awaiting_not_idle}
+use Rattle.laws.proofs.Apart.{awaiting_not_due, awaiting_not_idle}
 use Rattle.laws.proofs.Progress.{settles}
 use Rattle.laws.proofs.Tracking.{at_below, begins_below, begins_more, Open, Track, Apart, Tracked, track_quiet, apart_quiet, open_start, apart_start, the_next, track_end, apart_end, sound_more, faithful}
 
@@ -134,7 +134,7 @@ withdrawn_more x log c h = (h.0, (h.1.0, inr h.1.1, h.1.2, h.1.3))
 
 -- A client that is out was withdrawn.
 out_is_told : (g : Params) (f : ℤ) (log : List Entry) (b : State) → Trace g f log b → (c : ℕ) → b.client_out c ≡ true → Withdrawn log c
-out_is_told g f log b opening c h = true_false false h refl
+out_is_told g f log b opening c h = absurd (false≢true h)
 out_is_told g f log b (stirred {b = b₀} w same p) c h = out_is_told g f log b₀ p c h
 out_is_told g f log b (refused {log = log₀} o a ms q p) c h = withdrawn_more _ log₀ c (out_is_told g f log₀ b p c h)
 out_is_told g f log b (wrote {log = log₀} {b = b₀} v ms present rest p) c h = withdrawn_more _ log₀ c (out_is_told g f log₀ b₀ p c h)

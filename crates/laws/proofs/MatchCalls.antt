@@ -83,33 +83,36 @@ mark_byte k c =
 
 -- ---- refusals
 
-not_refused : (b : Bool) (x : Refusal) (y : Option Refusal) → cond b (Some x) y ≡ None → (b ≡ false) × (y ≡ None)
+pub not_refused : {A : Type 0} (b : Bool) (x : A) (y : Option A) → cond b (Some x) y ≡ None → (b ≡ false) × (y ≡ None)
 not_refused true x y e = grind arith
 not_refused false x y e = (refl, e)
 
 -- what an accepted write, read and tell passed
-write_passed : (r : Register) (room : Bool) (z : ℤ) → calls.write_refusal r room z ≡ None → ((client_at r 0).out ≡ false) × (is_idle (client_at r 0).phase ≡ true) × ((client_at r 0).round < 2000000)
+pub write_passed : (r : Register) (room : Bool) (z : ℤ) → calls.write_refusal r room z ≡ None → ((client_at r 0).out ≡ false) × (is_idle (client_at r 0).phase ≡ true) × ((client_at r 0).round < 2000000) × (room ≡ true)
 write_passed r room z e =
     let e0 = not_refused _ _ _ e in
     let e1 = not_refused _ _ _ e0.1 in
     let e2 = not_refused _ _ _ e1.1 in
     let e3 = not_refused _ _ _ e2.1 in
-    (e0.0, not-false _ e1.0, leb-false _ _ e3.0)
+    let e4 = not_refused _ _ _ e3.1 in
+    (e0.0, not-false _ e1.0, leb-false _ _ e3.0, not-false _ e4.0)
 
-read_passed : (r : Register) (room : Bool) (c : ℕ) → calls.read_refusal r room c ≡ None → (calls.no_reader r c ≡ false) × ((client_at r c).out ≡ false) × (is_idle (client_at r c).phase ≡ true) × ((client_at r c).round < 2000000)
+pub read_passed : (r : Register) (room : Bool) (c : ℕ) → calls.read_refusal r room c ≡ None → (calls.no_reader r c ≡ false) × ((client_at r c).out ≡ false) × (is_idle (client_at r c).phase ≡ true) × ((client_at r c).round < 2000000) × (room ≡ true)
 read_passed r room c e =
     let e0 = not_refused _ _ _ e in
     let e1 = not_refused _ _ _ e0.1 in
     let e2 = not_refused _ _ _ e1.1 in
     let e3 = not_refused _ _ _ e2.1 in
-    (e0.0, e1.0, not-false _ e2.0, leb-false _ _ e3.0)
+    let e4 = not_refused _ _ _ e3.1 in
+    (e0.0, e1.0, not-false _ e2.0, leb-false _ _ e3.0, not-false _ e4.0)
 
-tell_passed : (r : Register) (room : Bool) (c : ℕ) → calls.tell_refusal r room c ≡ None → (calls.no_reader r c ≡ false) × ((client_at r c).out ≡ false) × (is_due (client_at r c).phase ≡ true)
+pub tell_passed : (r : Register) (room : Bool) (c : ℕ) → calls.tell_refusal r room c ≡ None → (calls.no_reader r c ≡ false) × ((client_at r c).out ≡ false) × (is_due (client_at r c).phase ≡ true) × (room ≡ true)
 tell_passed r room c e =
     let e0 = not_refused _ _ _ e in
     let e1 = not_refused _ _ _ e0.1 in
     let e2 = not_refused _ _ _ e1.1 in
-    (e0.0, e1.0, not-false _ e2.0)
+    let e3 = not_refused _ _ _ e2.1 in
+    (e0.0, e1.0, not-false _ e2.0, not-false _ e3.0)
 
 reader_below : (r : Register) (c : ℕ) → calls.no_reader r c ≡ false → c ≤ r.settings.readers
 reader_below r c e = ltb-false r.settings.readers c (or_parts (eqb c 0) (ltb r.settings.readers c) e).1

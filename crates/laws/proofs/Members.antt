@@ -44,17 +44,17 @@ without_keeps n i (x ∷ xs) ne a =
     (λ e. elim a [ inl q ↦ absurd (ne (q ∙ eqb-true x n e)) | inr q ↦ without_keeps n i xs ne q ])
     (λ e. elim a [ inl q ↦ inl q | inr q ↦ inr (without_keeps n i xs ne q) ])
 
+all_kept_without : (x : ℕ) (ys zs : List ℕ) → Lacks x zs → AllByRecursion (λ z. Among z ys) zs → AllByRecursion (λ z. Among z (without x ys)) zs
+all_kept_without x ys [] a b = tt
+all_kept_without x ys (z ∷ zs) a b = (without_keeps x z ys (λ e. a.0 (sym e)) b.0, all_kept_without x ys zs a.1 b.1)
+
 -- Distinct numbers that all stand in another list are no more than it has.
 pub no_longer : (xs ys : List ℕ) → Distinct xs → AllByRecursion (λ x. Among x ys) xs → length xs ≤ length ys
 no_longer [] ys d h = omega arith
 no_longer (x ∷ xs) ys d h =
-    let ih : length xs ≤ length (without x ys) = no_longer xs (without x ys) d.1 (go xs d.0 h.1) in
+    let ih : length xs ≤ length (without x ys) = no_longer xs (without x ys) d.1 (all_kept_without x ys xs d.0 h.1) in
     let less : suc (length (without x ys)) ≤ length ys = without_less x ys h.0 in
     omega arith
-  where
-    go : (zs : List ℕ) → Lacks x zs → AllByRecursion (λ z. Among z ys) zs → AllByRecursion (λ z. Among z (without x ys)) zs
-    go [] a b = tt
-    go (z ∷ zs) a b = (without_keeps x z ys (λ e. a.0 (sym e)) b.0, go zs a.1 b.1)
 
 -- ---- places in a list of anything
 

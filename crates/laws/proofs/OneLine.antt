@@ -1,7 +1,7 @@
 -- All calls of a past stand in one line: ends in `linearizable`.
 use Rattle.std.proofs.Common.{◌≡◌, ℕ, suc, ◌<◌, ◌≤◌, false, ◌⊎◌, List, [], ◌∷◌, length, ℤ, sym, refl, ap, ◌∙◌, subst, inl, inr, arith}
 use Rattle.std.proofs.ByRecursion.{all-has, all_has_itself, All-weaker}
-use Rattle.std.proofs.lemmas.Bool.{cases_eq, cases_lt, cond-false, ne_eqb}
+use Rattle.std.proofs.lemmas.Bool.{cases_eq, cases_lt, cond-false, ne_eqb, false≢true}
 use Rattle.std.specs.List.{ContainsAt as Has, AllByRecursion}
 use Rattle.register.specs.Past.{Entry}
 use Rattle.laws.proofs.Sets.{Distinct}
@@ -10,7 +10,6 @@ use Rattle.laws.proofs.Model.{writes, Phase, idle, due, awaiting, State, Trace}
 use Rattle.laws.proofs.History.{Done, values, value_at, begun, spent, done, Ordered}
 use Rattle.laws.proofs.Line.{Op, op, Before, Respects, ends_of, Wrote, Showed, Pending, Line, Linearizable}
 use Rattle.laws.proofs.Members.{has_here, has_there}
-use Rattle.laws.proofs.Apart.{true_false}
 use Rattle.laws.proofs.Safety.{PhaseFine}
 use Rattle.laws.proofs.Orderly.{OpenFine, EndedFine, OneWriteEach, NewestFirst, wrote_more}
 use Rattle.laws.proofs.Invariant.{Invariant, invariant}
@@ -198,7 +197,7 @@ module _ (g : Params) (fit : Fit g) (f : ℤ) (log : List Entry) (b : State) (p 
           pending = λ a c e. (the_pending, in_has the_pending (insert the_pending (line_of (done log))) (in_insert the_pending (line_of (done log))), is_pending);
           given = all_insert _ the_pending (line_of (done log)) refl (all_ops _ (λ d h. (ended_fine d h).value));
           respects = respects_insert the_pending (line_of (done log)) whole.sorted whole.respects
-              (all_ops _ (λ d h q. true_false false q.0 refl))
+              (all_ops _ (λ d h q. absurd (false≢true q.0)))
               (all_ops _ (λ d h k q. absurd (let lt = writing_now d h q.1 in let most = key_most (op d) in let r : ⊥ = omega arith in r)));
           shows = sorted_shows 0 f (insert the_pending (line_of (done log))) (sorted_insert the_pending (line_of (done log)) whole.sorted)
               (one_write_insert the_pending (line_of (done log)) whole.one_write (all_ops _ (λ d h e k v. w (record { call = d; has = h; writer = k; version = sym v }))))

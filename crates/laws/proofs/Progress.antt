@@ -1,6 +1,6 @@
 -- Every reply that is awaited is on its way, so with no message waiting no call awaits one: ends in `settles`.
 use Rattle.std.proofs.Common.{◌≡◌, ℕ, zero, suc, ◌+◌, ◌*◌, ◌<◌, ◌≤◌, Bool, true, false, cond, eqb, ◌⊎◌, List, [], ◌∷◌, ◌++◌, length, ℤ, sym, refl, ap, ◌∙◌, subst, inl, inr, arith}
-use Rattle.std.proofs.lemmas.Bool.{cases_Bool, cases_eq, eqb-true}
+use Rattle.std.proofs.lemmas.Bool.{cases_Bool, cases_eq, eqb-true, both_ways, true≢false}
 use Rattle.register.specs.Past.{Entry}
 use Rattle.laws.proofs.Cards.{Params, Fit, Card, Slip, replicas_of}
 use Rattle.laws.proofs.Model.{put, Kind, writes, reads, tells, Msg, Phase, idle, due, awaiting, Client, State, sent, carried, Takes, InW, sets, drops, answers, delivers, phased, writing, asking, Counting, slip, Short, out_count, Trace, opening, stirred, refused, wrote, asked, told, delivered, lost, counted, finished, decided, became, replica_gone, client_gone}
@@ -8,7 +8,6 @@ use Rattle.laws.proofs.History.{values}
 use Rattle.laws.proofs.Claims.{Settled, Settles}
 use Rattle.laws.proofs.Members.{Among, among?, without, without_less, without_keeps}
 use Rattle.laws.proofs.Tables.{put_case}
-use Rattle.laws.proofs.Apart.{true_false}
 use Rattle.laws.proofs.Waiting.{all_takes, taken_or_waits, waits_behind, sent_waits}
 use Rattle.laws.proofs.Slips.{length_replicas}
 use Rattle.laws.proofs.Deciding.{three_times}
@@ -115,7 +114,7 @@ module _ (g : Params) (fit : Fit g) where
 -- ---- each change keeps it
 
 put_false : (p : ℕ → Bool) (i j : ℕ) → put p i true j ≡ false → p j ≡ false
-put_false p i j h = put_case (λ n t. t ≡ false → p n ≡ false) p i true j (λ e q. true_false true refl q) (λ e q. q) h
+put_false p i j h = put_case (λ n t. t ≡ false → p n ≡ false) p i true j (λ e q. absurd (true≢false q)) (λ e q. q) h
 
 -- why a message is lost or ignored: its replica or client is out, it is old, or it does not count
 abbrev Idle : State → Msg → Type 0
@@ -208,12 +207,12 @@ module _ (g : Params) where
           let kd : m.kind ≡ k = ap (λ (y : Msg). y.kind) (sym z) ∙ a.kind in
           elim y [
             | inl p ↦ elim p.1 [
-              | inl o ↦ true_false (b.replica_out i) (subst (λ n. b.replica_out n ≡ true) at o) q
+              | inl o ↦ absurd (both_ways (b.replica_out i) q (subst (λ n. b.replica_out n ≡ true) at o))
               | inr s ↦ absurd (let ok : b.heard i c < (b.clients c).round = a.open_yet (ap (λ (y : Msg). y.reply) z ∙ p.0) in
                   let s2 : m.round ≤ b.heard i c = subst (λ n. m.round ≤ b.heard i n) cl (subst (λ n. m.round ≤ b.heard n m.client) at s) in let r : ⊥ = omega arith in r)
             ]
             | inr p ↦ elim p.1 [
-              | inl o ↦ true_false (b.client_out c) (subst (λ n. b.client_out n ≡ true) cl o) present
+              | inl o ↦ absurd (both_ways (b.client_out c) present (subst (λ n. b.client_out n ≡ true) cl o))
               | inr no' ↦ elim (among? m.replica (replicas_of ss)) [
                 | inl a' ↦ subst (λ n. Among n (replicas_of ss)) at a'
                 | inr a' ↦ absurd (no' k ss (record { replies = p.0; kind = kd; awaited = ap (λ n. (b.clients n).phase) cl ∙ e; round = rd ∙ ap (λ n. (b.clients n).round) (sym cl); fresh = a' }))
@@ -245,7 +244,7 @@ module _ (g : Params) where
       w' = answers (b.replicas m.replica) m ∷ w
 
       new : (k : Kind) (c i : ℕ) → m.kind ≡ k → m.client ≡ c → m.round ≡ (b.clients c).round → m.replica ≡ i → OnWay w' heard' k c (b.clients c).round i
-      new k c i kd cl rd at = record { message = answers (b.replicas m.replica) m; waits = inl refl; kind = kd; client = cl; round = rd; replica = at; open_yet = λ q. true_false true refl q }
+      new k c i kd cl rd at = record { message = answers (b.replicas m.replica) m; waits = inl refl; kind = kd; client = cl; round = rd; replica = at; open_yet = λ q. absurd (true≢false q) }
 
       stays : (k : Kind) (ss : List Slip) (c i : ℕ) → (b.clients c).phase ≡ awaiting k ss → OnWay w b.heard k c (b.clients c).round i → OnWay w' heard' k c (b.clients c).round i
       stays k ss c i e a =

@@ -1,5 +1,5 @@
 -- A session opens over an empty channel with a place for each replica.
-use Rattle.std.proofs.Common.{◌≡◌, ℕ, ◌+◌, ◌*◌, ◌≤◌, Bool, true, false, cond, not, leb, List, [], length, Some, None, Option, refl, ap, subst, arith}
+use Rattle.std.proofs.Common.{◌≡◌, ℕ, ◌+◌, ◌*◌, ◌≤◌, not, leb, List, [], length, Some, None, Option, refl, ap, subst, arith}
 use Rattle.std.proofs.lemmas.List.{nil_from_length}
 use Rattle.std.proofs.lemmas.Bool.Decides.{nat_tests}
 use Rattle.wire.specs.declared.message.Message.{Message}
@@ -7,18 +7,14 @@ use Rattle.orders.specs.declared.settings.Settings.{Settings}
 use Rattle.orders.specs.declared.order.Order.{Order}
 use Rattle.orders.specs.declared.answer.Answer.{Answer}
 use Rattle.register.specs.declared.fault.ChannelFault.{ChannelFault}
-use Rattle.register.specs.declared.fault.RegisterFault.{RegisterFault}
 use Rattle.register.specs.declared.fault.RegisterFault.TheVariants.{Range, Overlap, Initial}
 use Rattle.register.specs.State.{opened}
 use Rattle.register.specs.Opening.{opening_fault, channel_fault, in_channel, in_ranges, value_in_range}
 use Rattle.register.specs.Past.{World, world, Past}
 use Rattle.register.specs.Session.{Session}
 use Rattle.laws.specs.Laws.{Laws}
+use Rattle.laws.proofs.MatchCalls.{not_refused}
 use Rattle.laws.specs.Performing.{LawfulSession}
-
-no_cond : {A : Type 0} (b : Bool) (x : A) (o : Option A) → cond b (Some x) o ≡ None → o ≡ None
-no_cond true x o e = grind arith
-no_cond false x o e = e
 
 no_fault : (o : Option ChannelFault) → in_channel o ≡ None → o ≡ None
 no_fault None e = refl
@@ -29,13 +25,10 @@ channel_fine waiting places replicas e = (grind (arith, nat_tests), grind (arith
 
 pub opened_fine : (s : Settings) (waiting places : ℕ) → opening_fault s waiting places ≡ None → (waiting ≡ 0) × (s.replicas ≤ places)
 opened_fine s waiting places e =
-    let last : Option RegisterFault = in_channel (channel_fault waiting places s.replicas) in
-    let third : Option RegisterFault = cond (not (value_in_range s.initial)) (Some Initial) last in
-    let second : Option RegisterFault = cond (leb s.replicas ((s.groups + 2) * s.tolerated)) (Some Overlap) third in
-    let a : second ≡ None = no_cond (not (in_ranges s)) Range second e in
-    let b : third ≡ None = no_cond (leb s.replicas ((s.groups + 2) * s.tolerated)) Overlap third a in
-    let c : last ≡ None = no_cond (not (value_in_range s.initial)) Initial last b in
-    channel_fine waiting places s.replicas (no_fault (channel_fault waiting places s.replicas) c)
+    let a = not_refused (not (in_ranges s)) Range _ e in
+    let b = not_refused (leb s.replicas ((s.groups + 2) * s.tolerated)) Overlap _ a.1 in
+    let c = not_refused (not (value_in_range s.initial)) Initial _ b.1 in
+    channel_fine waiting places s.replicas (no_fault _ c.1)
 
 pub session_lawful : Laws → (s : Settings) (waiting : List Message) (places : ℕ) (os : List Order) (rs : List Answer) (w : World) → Session s waiting places os rs w → LawfulSession s waiting places os rs w
 session_lawful laws s waiting places os rs w h =

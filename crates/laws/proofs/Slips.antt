@@ -1,12 +1,11 @@
 -- Slips and the replicas that they come from: ends in `several_tallied`, which ties a set of slips to a count of those that pass a test.
 use Rattle.std.proofs.Common.{◌≡◌, ℕ, suc, ◌≤◌, max, Bool, true, List, [], ◌∷◌, length, filter, sym, refl, ap, subst, inl, inr, arith}
 use Rattle.std.proofs.ByRecursion.{all-has, all_has_itself, all_kept_by, All-weaker, kept_by_passes}
-use Rattle.std.proofs.lemmas.Bool.{cond_both}
+use Rattle.std.proofs.lemmas.Bool.{cond_both, both_ways}
 use Rattle.std.specs.List.{ContainsAt as Has, AllByRecursion}
 use Rattle.laws.proofs.Sets.{Lacks, Distinct, Many}
 use Rattle.laws.proofs.Cards.{Card, Slip, replicas_of, highest, Several}
 use Rattle.laws.proofs.Members.{Among, no_longer}
-use Rattle.laws.proofs.Apart.{true_false}
 
 pub all_replicas : (P : ℕ → Type 0) (ss : List Slip) → AllByRecursion (λ s. P s.replica) ss → AllByRecursion P (replicas_of ss)
 all_replicas P [] h = tt
@@ -94,7 +93,7 @@ module _ (p : Slip → Bool) (P : Card → Type 0) (right : (s : Slip) → p s �
   passes_kept : (ss : List Slip) → AllByRecursion (λ s. p s ≡ true → Among s.replica (replicas_of (filter p ss))) ss
   passes_kept [] = tt
   passes_kept (s ∷ ss) = (
-    cond_both (p s) (s ∷ filter p ss) (filter p ss) (λ (ys : List Slip). p s ≡ true → Among s.replica (replicas_of ys)) (λ e q. inl refl) (λ e q. true_false (p s) q e),
+    cond_both (p s) (s ∷ filter p ss) (filter p ss) (λ (ys : List Slip). p s ≡ true → Among s.replica (replicas_of ys)) (λ e q. inl refl) (λ e q. absurd (both_ways (p s) e q)),
     All-weaker (λ (x : Slip). p x ≡ true → Among x.replica (replicas_of (filter p ss))) _
         (λ x h q. cond_both (p s) (s ∷ filter p ss) (filter p ss) (λ (ys : List Slip). Among x.replica (replicas_of ys)) (λ e. inr (h q)) (λ e. h q)) ss (passes_kept ss),
   )
