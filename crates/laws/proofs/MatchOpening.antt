@@ -12,6 +12,7 @@ use Rattle.register.specs.Past.{world}
 use Rattle.laws.proofs.Cards.{Fit}
 use Rattle.laws.proofs.Model as model
 use Rattle.laws.proofs.Matching.{params_of, RowMatches, ClientMatches, Matches}
+use Rattle.laws.proofs.Progress.{none_out}
 
 -- ---- the settings
 
@@ -46,10 +47,6 @@ params_of_fits k =
     }
 
 -- ---- the opened register
-
-none_out : (n : ℕ) → model.out_count (λ i. false) n ≡ 0
-none_out zero = refl
-none_out (suc n) = omega (arith, none_out n)
 
 opened_row_lem : (z : ℤ) → RowMatches (opened_row z) (record { version = 0; value = z; previous = z; marks = 0; note = 0 }) (λ c. 0)
 opened_row_lem z =

@@ -284,6 +284,10 @@ module _ (g : Params) where
       b' : State
       b' = sets b c x (sent k c x.round d (targets g k) ++ b.waiting)
 
+pub none_out : (n : ℕ) → out_count (λ i. false) n ≡ 0
+none_out zero = refl
+none_out (suc n) = omega (arith, none_out n)
+
 module _ (g : Params) (fit : Fit g) (f : ℤ) where
   none_yet : (k : Kind) → Short g k []
   none_yet writes = omega (arith, three_times g fit)
@@ -292,11 +296,7 @@ module _ (g : Params) (fit : Fit g) (f : ℤ) where
 
   -- Every past of the model makes progress.
   pub progress : (log : List Entry) (b : State) → Trace g f log b → Progress g b
-  progress log b opening = record { heard = λ i c. omega arith; out = none_out g.replicas; calls = λ c p. tt }
-    where
-      none_out : (n : ℕ) → out_count (λ i. false) n ≤ g.tolerated
-      none_out zero = omega arith
-      none_out (suc n) = omega (arith, none_out n)
+  progress log b opening = record { heard = λ i c. omega arith; out = omega (arith, none_out g.replicas); calls = λ c p. tt }
   progress log b (stirred {b = b₀} w same p) =
       let h = progress log b₀ p in
       record {
