@@ -1,5 +1,5 @@
 -- The opened register matches the opened model, and settings that passed the check fit the laws. It ends in `opening_matches`.
-use Rattle.std.proofs.Common.{◌≡◌, ℕ, zero, suc, ◌+◌, ◌*◌, ◌%◌, ◌^◌, ◌<◌, ◌≤◌, false, eqb, [], ℤ, sym, refl, ap, subst, one-mul, arith}
+use Rattle.std.proofs.Common.{◌≡◌, ℕ, ◌+◌, ◌*◌, ◌%◌, ◌^◌, ◌<◌, ◌≤◌, false, eqb, [], ℤ, sym, refl, ap, subst, one-mul, arith}
 use lib.Bits.{bit_or, or_shifted_r}
 use lib.Count.{ones, ones_cat, ones-ones}
 use Rattle.std.proofs.lemmas.List.{get_or-replicate, length-replicate}
