@@ -2,7 +2,8 @@
 use Rattle.std.proofs.Common.{◌≡◌, ℕ, suc, ◌+◌, ◌-◌, ◌*◌, ◌^◌, ◌<◌, ◌≤◌, Bool, true, false, ◌⊎◌, List, [], ◌∷◌, length, sym, refl, ◌∙◌, subst, inl, inr, mul-le-mul_right, arith}
 use lib.Bits.{and_le_r, bit_or}
 use lib.Count.{ones, ones-le}
-use Rattle.std.proofs.ByRecursion.{all-has, all_has_itself, All-weaker}
+use Rattle.std.proofs.ByRecursion.{All-map, all-has, all_has_itself, All-weaker}
+use Rattle.std.proofs.lemmas.List.{length-map}
 use Rattle.std.proofs.lemmas.Bool.{cases_lt, both_ways, true≢false}
 use Rattle.std.specs.List.{ContainsAt as Has, AllByRecursion}
 use Rattle.laws.proofs.Sets.{Distinct, Within, Many}
@@ -10,7 +11,7 @@ use Rattle.laws.proofs.Cards.{Params, Fit, Card, Slip, replicas_of, highest, Sev
 use Rattle.laws.proofs.Overlap.{many_both, many_weaker}
 use Rattle.laws.proofs.Marks.{or_within}
 use Rattle.laws.proofs.Growing.{ahead_stays}
-use Rattle.laws.proofs.Slips.{all_replicas, length_replicas, highest_tops, several_weaker, several_with, some_card, several_from_many}
+use Rattle.laws.proofs.Slips.{highest_tops, several_weaker, several_with, some_card, several_from_many}
 use Rattle.laws.proofs.Established.{Established, opening, written, witnessed, recorded, Posted}
 
 pub three_times : (g : Params) → Fit g → 3 * g.tolerated + 1 ≤ g.replicas
@@ -37,9 +38,9 @@ module _ (g : Params) (fit : Fit g) (old : ℕ → Card) (own : ℕ) (ss : List 
       record {
         places = replicas_of ss;
         distinct = r.distinct;
-        below = all_replicas (λ i. i < g.replicas) ss r.below;
-        enough = omega (arith, length_replicas ss);
-        each = all_replicas _ ss (All-weaker (Has ss) (λ (s : Slip). (x : Slip) × Has ss x × (x.replica ≡ s.replica)) (λ s h. (s, h, refl)) ss (all_has_itself ss));
+        below = All-map (λ i. i < g.replicas) (λ s. s.replica) ss r.below;
+        enough = omega (arith, length-map ss (λ s. s.replica));
+        each = All-map _ (λ s. s.replica) ss (All-weaker (Has ss) (λ (s : Slip). (x : Slip) × Has ss x × (x.replica ≡ s.replica)) (λ s h. (s, h, refl)) ss (all_has_itself ss));
       }
 
   -- What held of the cards of many replicas as the round began, and lasts, holds of all but t as many slips.
@@ -187,9 +188,9 @@ module _ (g : Params) (fit : Fit g) (now : ℕ → Card) (ss : List Slip)
       record {
         places = replicas_of x.chosen;
         distinct = x.distinct;
-        below = all_replicas (λ i. i < g.replicas) x.chosen (All-weaker (Has ss) (λ s. s.replica < g.replicas) (λ s h. all-has (λ s. s.replica < g.replicas) ss s below h) x.chosen x.from);
-        enough = omega (arith, x.enough, length_replicas x.chosen);
-        each = all_replicas (λ i. Q (now i)) x.chosen (go x.chosen x.from x.each);
+        below = All-map (λ i. i < g.replicas) (λ s. s.replica) x.chosen (All-weaker (Has ss) (λ s. s.replica < g.replicas) (λ s h. all-has (λ s. s.replica < g.replicas) ss s below h) x.chosen x.from);
+        enough = omega (arith, x.enough, length-map x.chosen (λ s. s.replica));
+        each = All-map (λ i. Q (now i)) (λ s. s.replica) x.chosen (go x.chosen x.from x.each);
       }
     where
       go : (xs : List Slip) → AllByRecursion (Has ss) xs → AllByRecursion (λ s. P s.card) xs → AllByRecursion (λ s. Q (now s.replica)) xs

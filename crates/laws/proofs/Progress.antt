@@ -1,5 +1,6 @@
 -- Every reply that is awaited is on its way, so with no message waiting no call awaits one: ends in `settles`.
 use Rattle.std.proofs.Common.{◌≡◌, ℕ, zero, suc, ◌+◌, ◌*◌, ◌<◌, ◌≤◌, Bool, true, false, cond, eqb, ◌⊎◌, List, [], ◌∷◌, ◌++◌, length, ℤ, sym, refl, ap, ◌∙◌, subst, inl, inr, arith}
+use Rattle.std.proofs.lemmas.List.{length-map}
 use Rattle.std.proofs.lemmas.Bool.{cases_Bool, cases_eq, eqb-true, both_ways, true≢false}
 use Rattle.register.specs.Past.{Entry}
 use Rattle.laws.proofs.Cards.{Params, Fit, Card, Slip, replicas_of}
@@ -9,7 +10,6 @@ use Rattle.laws.proofs.Claims.{Settled, Settles}
 use Rattle.laws.proofs.Members.{Among, among?, without, without_less, without_keeps}
 use Rattle.laws.proofs.Tables.{put_case}
 use Rattle.laws.proofs.Waiting.{all_takes, taken_or_waits, waits_behind, sent_waits}
-use Rattle.laws.proofs.Slips.{length_replicas}
 use Rattle.laws.proofs.Deciding.{three_times}
 use Rattle.laws.proofs.Safety.{Awaits, MsgFine, Safe}
 use Rattle.laws.proofs.Invariant.{invariant}
@@ -97,9 +97,9 @@ module _ (g : Params) (fit : Fit g) where
   -- The replies of all replicas asked that are not out are enough.
   enough : (b : State) (k : Kind) (ss : List Slip) → out_count b.replica_out g.replicas ≤ g.tolerated
       → ((i : ℕ) → i < targets g k → b.replica_out i ≡ false → Among i (replicas_of ss)) → Short g k ss → ⊥
-  enough b writes ss o h s = omega (arith, present_few_out b.replica_out g.replicas (replicas_of ss) h, length_replicas ss)
-  enough b reads ss o h s = omega (arith, present_few_out b.replica_out g.replicas (replicas_of ss) h, length_replicas ss)
-  enough b tells ss o h s = omega (arith, present_few_out b.replica_out (3 * g.tolerated + 1) (replicas_of ss) h, length_replicas ss, out_fewer b.replica_out (3 * g.tolerated + 1) g.replicas (three_times g fit))
+  enough b writes ss o h s = omega (arith, present_few_out b.replica_out g.replicas (replicas_of ss) h, length-map ss (λ s. s.replica))
+  enough b reads ss o h s = omega (arith, present_few_out b.replica_out g.replicas (replicas_of ss) h, length-map ss (λ s. s.replica))
+  enough b tells ss o h s = omega (arith, present_few_out b.replica_out (3 * g.tolerated + 1) (replicas_of ss) h, length-map ss (λ s. s.replica), out_fewer b.replica_out (3 * g.tolerated + 1) g.replicas (three_times g fit))
 
   -- With nothing waiting no client awaits a reply.
   settled : (b : State) → Progress g b → Settled b

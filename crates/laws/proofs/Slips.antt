@@ -1,5 +1,5 @@
 -- Slips and the replicas that they come from: ends in `several_tallied`, which ties a set of slips to a count of those that pass a test.
-use Rattle.std.proofs.Common.{◌≡◌, ℕ, suc, ◌≤◌, max, Bool, true, List, [], ◌∷◌, map, length, filter, sym, refl, ap, subst, inl, inr, arith}
+use Rattle.std.proofs.Common.{◌≡◌, ℕ, ◌≤◌, max, Bool, true, List, [], ◌∷◌, map, length, filter, sym, refl, subst, inl, inr, arith}
 use mathlib.Core.List.{map-map}
 use Rattle.std.proofs.lemmas.List.{length-map}
 use Rattle.std.proofs.ByRecursion.{all-has, All-map, all_kept_by, All-weaker, kept_by_passes}
@@ -9,15 +9,6 @@ use Rattle.laws.proofs.Sets.{Lacks, Distinct, Many}
 use Rattle.laws.proofs.Cards.{Card, Slip, replicas_of, highest, Several}
 use Rattle.laws.proofs.Members.{Among, no_longer}
 
-pub all_replicas : (P : ℕ → Type 0) (ss : List Slip) → AllByRecursion (λ s. P s.replica) ss → AllByRecursion P (replicas_of ss)
-all_replicas P [] h = tt
-all_replicas P (s ∷ ss) h = (h.0, all_replicas P ss h.1)
-
-pub length_replicas : (ss : List Slip) → length (replicas_of ss) ≡ length ss
-length_replicas [] = refl
-length_replicas (s ∷ ss) = ap suc (length_replicas ss)
-
--- No slip is above the highest.
 pub highest_tops : (ss : List Slip) → AllByRecursion (λ s. s.card.version ≤ highest ss) ss
 highest_tops [] = tt
 highest_tops (s ∷ ss) = (omega arith, All-weaker (λ (x : Slip). x.card.version ≤ highest ss) (λ (x : Slip). x.card.version ≤ max s.card.version (highest ss)) (λ x h. omega arith) ss (highest_tops ss))
@@ -107,8 +98,8 @@ module _ {X : Type 0} (slip : X → Slip) (p : X → Bool) (P : Card → Type 0)
   pub several_tallied : ((x : X) → P (slip x).card → p x ≡ true) → (ss : List Slip) (xs : List X) (m : ℕ) → ((Q : Slip → Type 0) → AllByRecursion (λ x. Q (slip x)) xs → AllByRecursion Q ss) → Several ss m P → m ≤ length (filter p xs)
   several_tallied whole ss xs m every v =
       let few : length (replicas_of v.chosen) ≤ length (map sender (filter p xs)) =
-      no_longer (replicas_of v.chosen) (map sender (filter p xs)) v.distinct (all_replicas (λ n. Among n (map sender (filter p xs))) v.chosen (go v.chosen v.from v.each)) in
-      omega (arith, v.enough, length_replicas v.chosen, length-map (filter p xs) sender)
+      no_longer (replicas_of v.chosen) (map sender (filter p xs)) v.distinct (All-map (λ n. Among n (map sender (filter p xs))) (λ s. s.replica) v.chosen (go v.chosen v.from v.each)) in
+      omega (arith, v.enough, length-map v.chosen (λ s. s.replica), length-map (filter p xs) sender)
     where
       found : AllByRecursion (λ (s : Slip). P s.card → Among s.replica (map sender (filter p xs))) ss
       found =
