@@ -117,7 +117,7 @@ module _ (g : Params) (f : ℤ) where
       tracked_moved (x ∷ log₀) b₀.clients m.client y
       (λ h. subst (Track (x ∷ log₀) m.client (begun log₀ m.client)) (sym rest) (
         subst (Track (x ∷ log₀) m.client (begun log₀ m.client)) n.awaited h,
-        record { since = length log₀; after = begins_below log₀ m.client _ o.begins; due = (x, inl (refl, refl), refl, refl); untold = λ n lt q. absurd (let r : ⊥ = omega (arith, at_below (x ∷ log₀) n q.0 q.1) in r) },
+        record { since = length log₀; after = begins_below log₀ m.client _ o.begins; due = (x, inl (refl, refl), refl, refl); untold = λ n lt q. absurd (omega (arith, at_below (x ∷ log₀) n q.0 q.1)) },
       ))
       (tracked_quiet x log₀ b₀.clients (λ j s. s.1) refl (λ j q r. no_tell tt r.1) refl (tracked log₀ b₀ p))
   tracked log b (replica_gone {log = log₀} {b = b₀} i ms lt ni few p) = tracked_quiet _ log₀ b₀.clients (λ j s. s.1) refl (λ j q r. no_tell tt r.1) refl (tracked log₀ b₀ p)

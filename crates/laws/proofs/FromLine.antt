@@ -30,7 +30,7 @@ operation x = record { client = x.client; begin = x.begin; end = end_of x.ended 
 -- ---- lists
 
 has_map : {X Y : Type 0} (g : X → Y) (xs : List X) (x : X) → Has xs x → Has (map g xs) (g x)
-has_map g [] x h = absurd (let r : ⊥ = omega (arith, h.1) in r)
+has_map g [] x h = absurd (omega (arith, h.1))
 has_map g (y ∷ ys) x (zero, l, at) = (zero, omega arith, λ d. ap g (at x))
 has_map g (y ∷ ys) x (suc k, l, at) = let r = has_map g ys x (k, omega (arith, l), at) in (suc r.0, omega (arith, r.1), r.2)
 
@@ -253,7 +253,7 @@ module _ (f : ℤ) (log : List Entry) (none : AllByRecursion NoReadOfWriter log)
   has_unended : (o : Operation) → IsWrite (oldest log) o → o.end ≡ None → ((j : ℕ) → EndsAt (oldest log) 0 o.begin j → ⊥) → (d : Done) → Has (done log) d → (d.client ≡ 0 → ⊥) → d.version ≡ o.version → Has (map operation on.line) o
   has_unended o w e n d h reader v =
       elim (all-has (λ x. (x.client ≡ 0 → ⊥) → (x.version ≡ 0) ⊎ ((y : Op) × Has on.line y × (y.client ≡ 0) × (y.version ≡ x.version))) on.line (op d) (shown_stands 0 f on.line on.shows) (stands d h) reader) [
-        | inl z ↦ absurd (let r : ⊥ = omega (arith, z, v, w.number) in r)
+        | inl z ↦ absurd (omega (arith, z, v, w.number))
         | inr q ↦ elim (only_of q.0 q.1) [
           | inl r ↦ absurd (ended r (sym (ap (λ (o : Op). o.client) r.2) ∙ q.2) (sym (ap (λ (o : Op). o.version) r.2) ∙ q.3 ∙ v))
           | inr p ↦ (let u = q.3 ∙ v in

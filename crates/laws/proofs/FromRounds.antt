@@ -77,4 +77,4 @@ module _ (k : Checked) (small : told_size k ≤ k.replicas) (log : List Entry) (
       bounded c i j zero l h = omega (arith, h)
       bounded c i j (suc zero) l h = omega (arith, h)
       bounded c i j (suc (suc zero)) l h = omega (arith, h)
-      bounded c i j (suc (suc (suc n))) l h = absurd (let r : ⊥ = omega arith in r)
+      bounded c i j (suc (suc (suc n))) l h = absurd (omega arith)

@@ -262,7 +262,7 @@ count_below p i (suc n) l =
     omega arith
 
 count_put : (p : ℕ → Bool) (i n : ℕ) → i < n → p i ≡ false → model.out_count (put p i true) n ≡ model.out_count p n + 1
-count_put p i zero l f = absurd (let z : ⊥ = omega arith in z)
+count_put p i zero l f = absurd (omega arith)
 count_put p i (suc n) l f =
     elim (cases_eq n i) [
       | inl q ↦

@@ -68,8 +68,8 @@ at_oldest (x ∷ log) i e (inr p) = at_before (oldest log) (x ∷ []) i e (at_ol
 pub at_same : (log : List Entry) (i : ℕ) (e e' : Entry) → At log i e → At log i e' → e ≡ e'
 at_same [] i e e' h k = absurd h
 at_same (x ∷ log) i e e' (inl p) (inl q) = sym p.1 ∙ q.1
-at_same (x ∷ log) i e e' (inl p) (inr q) = absurd (let r : ⊥ = omega (arith, p.0, at_below log i e' q) in r)
-at_same (x ∷ log) i e e' (inr p) (inl q) = absurd (let r : ⊥ = omega (arith, q.0, at_below log i e p) in r)
+at_same (x ∷ log) i e e' (inl p) (inr q) = absurd (omega (arith, p.0, at_below log i e' q))
+at_same (x ∷ log) i e e' (inr p) (inl q) = absurd (omega (arith, q.0, at_below log i e p))
 at_same (x ∷ log) i e e' (inr p) (inr q) = at_same log i e e' p q
 
 pub all_at_lem : (P : Entry → Type 0) (log : List Entry) (i : ℕ) (e : Entry) → AllByRecursion P log → At log i e → P e

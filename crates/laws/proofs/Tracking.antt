@@ -42,7 +42,7 @@ next_more x log c i j h =
     record {
       after = h.after;
       ends = ends_more x log c j h.ends;
-      first = λ n p q e. elim (ends_split x log c n e) [ inl y ↦ absurd (let r : ⊥ = omega (arith, y.0) in r) | inr y ↦ h.first n p q y ];
+      first = λ n p q e. elim (ends_split x log c n e) [ inl y ↦ absurd (omega (arith, y.0)) | inr y ↦ h.first n p q y ];
     }
 
 -- ---- one client
@@ -108,7 +108,7 @@ module _ (x : Entry) (log : List Entry) (c : ℕ) (st : Starts c x) (rest : (i :
   open_start =
       record {
         begins = (x, inl (refl, refl), st);
-        none = λ n lt e. absurd (let r : ⊥ = omega (arith, ends_below (x ∷ log) c n e) in r);
+        none = λ n lt e. absurd (omega (arith, ends_below (x ∷ log) c n e));
         others = λ i b. elim (begins_split x log c i b) [
           | inl p ↦ inl p.0
           | inr p ↦ (let r = rest i p in inr (r.0, next_more x log c i r.0 r.1, ends_below log c r.0 r.1.ends))
@@ -118,7 +118,7 @@ module _ (x : Entry) (log : List Entry) (c : ℕ) (st : Starts c x) (rest : (i :
   pub apart_start : Apart log c → Apart (x ∷ log) c
   apart_start h i i' b b' lt =
       elim (begins_split x log c i b) [
-        | inl p ↦ absurd (let r : ⊥ = omega (arith, p.0, begins_below (x ∷ log) c i' b') in r)
+        | inl p ↦ absurd (omega (arith, p.0, begins_below (x ∷ log) c i' b'))
         | inr p ↦ elim (begins_split x log c i' b') [
           | inl q ↦ (let r = rest i p in (r.0, r.1.after, omega (arith, q.0, ends_below log c r.0 r.1.ends), ends_more x log c r.0 r.1.ends))
           | inr q ↦ (let r = h i i' p q lt in (r.0, r.1, r.2, ends_more x log c r.0 r.3))
@@ -135,7 +135,7 @@ module _ (x : Entry) (log : List Entry) (c at : ℕ) (en : Ends c x) (o : Open l
       record {
         after = begins_below log c at o.begins;
         ends = (x, inl (refl, refl), en);
-        first = λ n lt k e. elim (ends_split x log c n e) [ inl p ↦ absurd (let r : ⊥ = omega (arith, p.0) in r) | inr p ↦ o.none n lt p ];
+        first = λ n lt k e. elim (ends_split x log c n e) [ inl p ↦ absurd (omega (arith, p.0)) | inr p ↦ o.none n lt p ];
       }
 
   pub track_end : (i : ℕ) → BeginsAt (x ∷ log) c i → (j : ℕ) × NextEnd (x ∷ log) c i j
