@@ -22,9 +22,10 @@ use Rattle.register.specs.State.{client_at, with_client, blank_client, mark_of}
 use Rattle.register.specs.Calls as calls
 use Rattle.register.specs.Calls.{toward, copies, outgoing, raised, is_idle, is_due, refusal, accepted, put_out, named, unless, answer_by}
 use Rattle.register.specs.Past.{World, Entry, Called, sent_by}
+use Rattle.laws.proofs.Members.{Among}
 use Rattle.laws.proofs.Cards.{Card}
 use Rattle.laws.proofs.Model as model
-use Rattle.laws.proofs.Model.{entry, put, Msg, InW, Same, sent}
+use Rattle.laws.proofs.Model.{entry, put, Msg, Same, sent}
 use Rattle.laws.proofs.Matching.{params_of, msg_of, Proper, ReceiptsMatch, ReadingsMatch, PhasesMatch, RoundsLeft, ClientMatches, ClientsMatch, OutsMatch, RegisterMatches, Matches}
 use Rattle.laws.proofs.Waiting.{waits_behind}
 use Rattle.laws.proofs.MatchTables.{each_set, each_set_beside, in_left, in_cases, same_self}
@@ -43,26 +44,26 @@ abbrev aimed : model.Kind → ℕ → ℕ → Card → ℕ → Msg
 aimed kd c r d i = record { reply = false; kind = kd; replica = i; client = c; round = r; card = d }
 
 module _ (m : Message) (kd : model.Kind) (c r : ℕ) (d : Card) (is : (i : ℕ) → msg_of (toward m i) ≡ aimed kd c r d i) where
-  more_same : (n : ℕ) (x : Msg) → (InW x (sent kd c r d n) → InW x (map msg_of (copies m n))) × (InW x (map msg_of (copies m n)) → InW x (sent kd c r d n))
-      → (InW x (sent kd c r d (suc n)) → InW x (map msg_of (copies m n) ++ msg_of (toward m n) ∷ [])) × (InW x (map msg_of (copies m n) ++ msg_of (toward m n) ∷ []) → InW x (sent kd c r d (suc n)))
+  more_same : (n : ℕ) (x : Msg) → (Among x (sent kd c r d n) → Among x (map msg_of (copies m n))) × (Among x (map msg_of (copies m n)) → Among x (sent kd c r d n))
+      → (Among x (sent kd c r d (suc n)) → Among x (map msg_of (copies m n) ++ msg_of (toward m n) ∷ [])) × (Among x (map msg_of (copies m n) ++ msg_of (toward m n) ∷ []) → Among x (sent kd c r d (suc n)))
   more_same n x h = (into, back)
     where
-      into : InW x (sent kd c r d (suc n)) → InW x (map msg_of (copies m n) ++ msg_of (toward m n) ∷ [])
+      into : Among x (sent kd c r d (suc n)) → Among x (map msg_of (copies m n) ++ msg_of (toward m n) ∷ [])
       into (inl e) = waits_behind x (map msg_of (copies m n)) (msg_of (toward m n) ∷ []) (inl (e ∙ sym (is n)))
       into (inr i) = in_left x (map msg_of (copies m n)) (msg_of (toward m n) ∷ []) (h.0 i)
 
-      last : InW x (msg_of (toward m n) ∷ []) → InW x (sent kd c r d (suc n))
+      last : Among x (msg_of (toward m n) ∷ []) → Among x (sent kd c r d (suc n))
       last (inl e) = inl (e ∙ is n)
       last (inr i) = elim i [ ]
 
-      back : InW x (map msg_of (copies m n) ++ msg_of (toward m n) ∷ []) → InW x (sent kd c r d (suc n))
+      back : Among x (map msg_of (copies m n) ++ msg_of (toward m n) ∷ []) → Among x (sent kd c r d (suc n))
       back i = elim (in_cases x (map msg_of (copies m n)) (msg_of (toward m n) ∷ []) i) [ inl j ↦ inr (h.1 j) | inr j ↦ last j ]
 
   copies_same : (n : ℕ) → Same (sent kd c r d n) (map msg_of (copies m n))
   copies_same zero x = (λ h. h, λ h. h)
   copies_same (suc n) x =
       let e : map msg_of (copies m n ++ toward m n ∷ []) ≡ map msg_of (copies m n) ++ msg_of (toward m n) ∷ [] = map-append msg_of (copies m n) (toward m n ∷ []) in
-      subst (λ w. (InW x (sent kd c r d (suc n)) → InW x w) × (InW x w → InW x (sent kd c r d (suc n)))) (sym e) (more_same n x (copies_same n x))
+      subst (λ w. (Among x (sent kd c r d (suc n)) → Among x w) × (Among x w → Among x (sent kd c r d (suc n)))) (sym e) (more_same n x (copies_same n x))
 
   set_same : (n j : ℕ) (vs : List Message) → n ≡ j → Same (sent kd c r d n ++ map msg_of vs) (map msg_of (copies m j ++ vs))
   set_same n j vs e =

@@ -4,7 +4,7 @@ use Rattle.std.proofs.lemmas.List.{length-map}
 use Rattle.std.proofs.lemmas.Bool.{cases_Bool, cases_eq, eqb-true, both_ways, true≢false}
 use Rattle.register.specs.Past.{Entry}
 use Rattle.laws.proofs.Cards.{Params, Fit, Card, Slip, replicas_of}
-use Rattle.laws.proofs.Model.{put, Kind, writes, reads, tells, Msg, Phase, idle, due, awaiting, Client, State, sent, carried, Takes, InW, sets, drops, answers, delivers, phased, writing, asking, Counting, slip, Short, out_count, Trace, opening, stirred, refused, wrote, asked, told, delivered, lost, counted, finished, decided, became, replica_gone, client_gone}
+use Rattle.laws.proofs.Model.{put, Kind, writes, reads, tells, Msg, Phase, idle, due, awaiting, Client, State, sent, carried, Takes, sets, drops, answers, delivers, phased, writing, asking, Counting, slip, Short, out_count, Trace, opening, stirred, refused, wrote, asked, told, delivered, lost, counted, finished, decided, became, replica_gone, client_gone}
 use Rattle.laws.proofs.History.{values}
 use Rattle.laws.proofs.Claims.{Settled, Settles}
 use Rattle.laws.proofs.Members.{Among, among?, without, without_less, without_keeps}
@@ -56,14 +56,14 @@ out_one_more p i n = (go n).0
 -- a message of client c's round r to or from replica i waits, and if it is to the replica, that has not yet heard of the round
 pub record OnWay (w : List Msg) (heard : ℕ → ℕ → ℕ) (k : Kind) (c r i : ℕ) : Type 0 where
   pub message : Msg
-  pub waits : InW message w
+  pub waits : Among message w
   pub kind : message.kind ≡ k
   pub client : message.client ≡ c
   pub round : message.round ≡ r
   pub replica : message.replica ≡ i
   pub open_yet : message.reply ≡ false → heard i c < r
 
-on_way : (w w' : List Msg) (heard heard' : ℕ → ℕ → ℕ) (k : Kind) (c r i : ℕ) (a : OnWay w heard k c r i) → InW a.message w' → (a.message.reply ≡ false → heard' i c < r) → OnWay w' heard' k c r i
+on_way : (w w' : List Msg) (heard heard' : ℕ → ℕ → ℕ) (k : Kind) (c r i : ℕ) (a : OnWay w heard k c r i) → Among a.message w' → (a.message.reply ≡ false → heard' i c < r) → OnWay w' heard' k c r i
 on_way w w' heard heard' k c r i a waits yet = record { message = a.message; waits = waits; kind = a.kind; client = a.client; round = a.round; replica = a.replica; open_yet = yet }
 
 -- the replicas that a set of messages goes to
@@ -109,7 +109,7 @@ module _ (g : Params) (fit : Fit g) where
       go idle h = inl refl
       go due h = inr refl
       go (awaiting k ss) owing =
-          absurd (enough b k ss h.out (λ i lt o. elim (owing.each i lt o) [ inl a ↦ a | inr a ↦ absurd (subst (InW a.message) e a.waits) ]) owing.short)
+          absurd (enough b k ss h.out (λ i lt o. elim (owing.each i lt o) [ inl a ↦ a | inr a ↦ absurd (subst (Among a.message) e a.waits) ]) owing.short)
 
 -- ---- each change keeps it
 
