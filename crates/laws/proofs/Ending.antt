@@ -15,7 +15,7 @@ use Rattle.laws.proofs.Calls.{Starts, BeginsAt, NextEnd, AwaitsTell, Withdrawn, 
 use Rattle.laws.proofs.Tables.{put_case, put_two}
 use Rattle.laws.proofs.Apart.{awaiting_not_due, awaiting_not_idle}
 use Rattle.laws.proofs.Progress.{settles}
-use Rattle.laws.proofs.Tracking.{at_below, begins_below, begins_more, Open, Track, Apart, Tracked, track_quiet, apart_quiet, open_start, apart_start, the_next, track_end, apart_end, sound_more, faithful}
+use Rattle.laws.proofs.Tracking.{at_below, begins_below, at_more, Open, Track, Apart, Tracked, track_quiet, apart_quiet, open_start, apart_start, the_next, track_end, apart_end, sound_more, faithful}
 
 abbrev IsNoTell : Order → Type 0
 IsNoTell (Write v) = Unit {0}
@@ -57,7 +57,7 @@ module _ (g : Params) (f : ℤ) where
           | inl e ↦ subst (Apart (x ∷ log)) (sym e) (apart_end x log c (begun log c) (refl, refl) o (t.apart c))
           | inr e ↦ apart_quiet x log j (λ s. s.1) (λ s. e (sym s.1)) (t.apart j)
         ];
-        sound = ((begins_more x log c (begun log c) o.begins, the_next x log c (begun log c) (refl, refl) o), sound_more x log (done log) t.sound);
+        sound = ((at_more (Starts c) x log (begun log c) o.begins, the_next x log c (begun log c) (refl, refl) o), sound_more x log (done log) t.sound);
       }
 
   -- A call starts.
