@@ -116,17 +116,17 @@ module _ (f : ℤ) (log : List Entry) (none : AllByRecursion NoReadOfWriter log)
       let w = write_order f log none x.begin x.version h in
       record { client = c; start = accepted_told log (Write x.value) x.begin w.entry w.at w.accepted (w.order ∙ ap Write (sym z)); number = write_number log x.begin x.version h; ending = e }
 
-  -- the model's call of a write that ended
-  record EndedWrite (o : Operation) (j : ℕ) : Type 0 where
+  -- the model's call of an operation that ended
+  record EndedCall (o : Operation) (j : ℕ) : Type 0 where
     call : Done
     has : Has (done log) call
-    client : call.client ≡ 0
+    client : call.client ≡ o.client
     begin : call.begin ≡ o.begin
     end : call.end ≡ j
     version : call.version ≡ o.version
     value : call.value ≡ o.value
 
-  ended_write : (o : Operation) (j : ℕ) → IsWrite (oldest log) o → NextEnd log 0 o.begin j → EndedWrite o j
+  ended_write : (o : Operation) (j : ℕ) → IsWrite (oldest log) o → NextEnd log 0 o.begin j → EndedCall o j
   ended_write o j w n =
       let r = faith.complete 0 o.begin j (begins_write o.begin o.version (number_at o w)) n in
       let d = r.0 in
@@ -134,7 +134,7 @@ module _ (f : ℤ) (log : List Entry) (none : AllByRecursion NoReadOfWriter log)
       record {
         call = d;
         has = r.1;
-        client = r.2;
+        client = r.2 ∙ sym w.client;
         begin = r.3;
         end = r.4;
         version = v;
@@ -168,17 +168,7 @@ module _ (f : ℤ) (log : List Entry) (none : AllByRecursion NoReadOfWriter log)
         value = s.1;
       }
 
-  -- the model's call of a read
-  record EndedRead (o : Operation) (j : ℕ) : Type 0 where
-    call : Done
-    has : Has (done log) call
-    client : call.client ≡ o.client
-    begin : call.begin ≡ o.begin
-    end : call.end ≡ j
-    version : call.version ≡ o.version
-    value : call.value ≡ o.value
-
-  ended_read : (o : Operation) → (r : IsRead (oldest log) o) → EndedRead o r.place
+  ended_read : (o : Operation) → (r : IsRead (oldest log) o) → EndedCall o r.place
   ended_read o r =
       let s = faith.complete o.client o.begin r.place (begins_log log o.client o.begin (inr (r.client, r.start))) (next_log log o.client o.begin r.place r.ends) in
       let t = said log s.0 s.1 r.place r.ends.entry s.4 (at_log log r.place r.ends.entry r.ends.at) in
@@ -246,8 +236,11 @@ module _ (f : ℤ) (log : List Entry) (none : AllByRecursion NoReadOfWriter log)
   has_call : (d : Done) → Has (done log) d → (o : Operation) → operation (op d) ≡ o → Has (map operation on.line) o
   has_call d h o e = subst (Has (map operation on.line)) e (has_map operation on.line (op d) (stands d h))
 
+  has_ended : (o : Operation) (j : ℕ) → o.end ≡ Some j → EndedCall o j → Has (map operation on.line) o
+  has_ended o j e s = has_call s.call s.has o (same_operation _ o s.client s.begin (ap Some s.end ∙ sym e) s.version s.value)
+
   has_read : (o : Operation) → IsRead (oldest log) o → Has (map operation on.line) o
-  has_read o r = let s = ended_read o r in has_call s.call s.has o (same_operation _ o s.client s.begin (ap Some s.end ∙ sym r.end) s.version s.value)
+  has_read o r = has_ended o r.place r.end (ended_read o r)
 
   -- an unended write that a read shows
   has_unended : (o : Operation) → IsWrite (oldest log) o → o.end ≡ None → ((j : ℕ) → EndsAt (oldest log) 0 o.begin j → ⊥) → (d : Done) → Has (done log) d → (d.client ≡ 0 → ⊥) → d.version ≡ o.version → Has (map operation on.line) o
@@ -274,9 +267,7 @@ module _ (f : ℤ) (log : List Entry) (none : AllByRecursion NoReadOfWriter log)
   has_write o w why = go o.end refl w.ending
     where
       go : (t : Option ℕ) → o.end ≡ t → Ending (oldest log) 0 o.begin t → Has (map operation on.line) o
-      go (Some j) e n =
-          let s = ended_write o j w (next_log log 0 o.begin j n) in
-          has_call s.call s.has o (same_operation _ o (s.client ∙ sym w.client) s.begin (ap Some s.end ∙ sym e) s.version s.value)
+      go (Some j) e n = has_ended o j e (ended_write o j w (next_log log 0 o.begin j n))
       go None e n =
           elim why [
             | inl q ↦ absurd (none-some q.0 (sym e ∙ q.1))
