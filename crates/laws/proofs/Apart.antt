@@ -1,22 +1,19 @@
 -- Constructors that differ, and what follows from taking them for one: ends in `awaiting_not_idle`.
-use Rattle.std.proofs.Common.{◌≡◌, ℕ, Bool, true, false, List, arith}
+use Rattle.std.proofs.Common.{◌≡◌, List, arith}
 use Rattle.laws.proofs.Cards.{Slip}
 use Rattle.laws.proofs.Model.{Kind, writes, reads, tells, idle, due, awaiting}
 
-pub true_false : {A : Type 0} (b : Bool) → b ≡ true → b ≡ false → A
-true_false b p q = absurd (let z : ◌≡◌ {A = ℕ} 0 1 = cc in let w : ⊥ = omega arith in w)
-
 pub reads_not_writes : reads ≡ writes → ⊥
-reads_not_writes e = let z : ◌≡◌ {A = ℕ} 0 1 = cc in omega arith
+reads_not_writes e = grind arith
 
 pub tells_not_writes : tells ≡ writes → ⊥
-tells_not_writes e = let z : ◌≡◌ {A = ℕ} 0 1 = cc in omega arith
+tells_not_writes e = grind arith
 
 pub due_not_idle : due ≡ idle → ⊥
-due_not_idle e = let z : ◌≡◌ {A = ℕ} 0 1 = cc in omega arith
+due_not_idle e = grind arith
 
 pub awaiting_not_due : {k : Kind} {ss : List Slip} → awaiting k ss ≡ due → ⊥
-awaiting_not_due e = let z : ◌≡◌ {A = ℕ} 0 1 = cc in omega arith
+awaiting_not_due e = grind arith
 
 pub awaiting_not_idle : {k : Kind} {ss : List Slip} → awaiting k ss ≡ idle → ⊥
-awaiting_not_idle e = let z : ◌≡◌ {A = ℕ} 0 1 = cc in omega arith
+awaiting_not_idle e = grind arith

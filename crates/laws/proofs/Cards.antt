@@ -1,5 +1,5 @@
 -- Cards, slips, and deciding a first round, as the proofs of the laws see them.
-use Rattle.std.proofs.Common.{◌≡◌, ℕ, suc, ◌+◌, ◌-◌, ◌*◌, ◌^◌, ◌<◌, ◌≤◌, max, Bool, true, false, ◌⊎◌, List, [], ◌∷◌, length, ℤ}
+use Rattle.std.proofs.Common.{◌≡◌, ℕ, suc, ◌+◌, ◌-◌, ◌*◌, ◌^◌, ◌<◌, ◌≤◌, max, Bool, true, false, ◌⊎◌, List, [], ◌∷◌, map, length, ℤ}
 use lib.Bits.{bit_or}
 use lib.Count.{ones}
 use Rattle.std.specs.List.{ContainsAt as Has, AllByRecursion}
@@ -36,8 +36,7 @@ pub record Slip : Type 0 where
   pub card : Card
 
 abbrev pub replicas_of : List Slip → List ℕ
-replicas_of [] = []
-replicas_of (s ∷ ss) = s.replica ∷ replicas_of ss
+replicas_of ss = map (λ s. s.replica) ss
 
 abbrev pub highest : List Slip → ℕ
 highest [] = 0

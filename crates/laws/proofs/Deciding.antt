@@ -2,16 +2,16 @@
 use Rattle.std.proofs.Common.{◌≡◌, ℕ, suc, ◌+◌, ◌-◌, ◌*◌, ◌^◌, ◌<◌, ◌≤◌, Bool, true, false, ◌⊎◌, List, [], ◌∷◌, length, sym, refl, ◌∙◌, subst, inl, inr, mul-le-mul_right, arith}
 use lib.Bits.{and_le_r, bit_or}
 use lib.Count.{ones, ones-le}
-use Rattle.std.proofs.ByRecursion.{all-has, all_has_itself, All-weaker}
-use Rattle.std.proofs.lemmas.Bool.{cases_lt}
+use Rattle.std.proofs.ByRecursion.{All-map, all-has, all_has_itself, All-weaker}
+use Rattle.std.proofs.lemmas.List.{length-map}
+use Rattle.std.proofs.lemmas.Bool.{cases_lt, both_ways, true≢false}
 use Rattle.std.specs.List.{ContainsAt as Has, AllByRecursion}
 use Rattle.laws.proofs.Sets.{Distinct, Within, Many}
 use Rattle.laws.proofs.Cards.{Params, Fit, Card, Slip, replicas_of, highest, Several, Noted, Seen, Decision, nothing, noted, seen, due, older, Ahead, Later}
 use Rattle.laws.proofs.Overlap.{many_both, many_weaker}
 use Rattle.laws.proofs.Marks.{or_within}
-use Rattle.laws.proofs.Apart.{true_false}
 use Rattle.laws.proofs.Growing.{ahead_stays}
-use Rattle.laws.proofs.Slips.{all_replicas, length_replicas, highest_tops, several_weaker, several_with, some_card, several_from_many}
+use Rattle.laws.proofs.Slips.{highest_tops, several_weaker, several_with, some_card, several_from_many}
 use Rattle.laws.proofs.Established.{Established, opening, written, witnessed, recorded, Posted}
 
 pub three_times : (g : Params) → Fit g → 3 * g.tolerated + 1 ≤ g.replicas
@@ -38,9 +38,9 @@ module _ (g : Params) (fit : Fit g) (old : ℕ → Card) (own : ℕ) (ss : List 
       record {
         places = replicas_of ss;
         distinct = r.distinct;
-        below = all_replicas (λ i. i < g.replicas) ss r.below;
-        enough = omega (arith, length_replicas ss);
-        each = all_replicas _ ss (All-weaker (Has ss) (λ (s : Slip). (x : Slip) × Has ss x × (x.replica ≡ s.replica)) (λ s h. (s, h, refl)) ss (all_has_itself ss));
+        below = All-map (λ i. i < g.replicas) (λ s. s.replica) ss r.below;
+        enough = omega (arith, length-map ss (λ s. s.replica));
+        each = All-map _ (λ s. s.replica) ss (All-weaker (Has ss) (λ (s : Slip). (x : Slip) × Has ss x × (x.replica ≡ s.replica)) (λ s h. (s, h, refl)) ss (all_has_itself ss));
       }
 
   -- What held of the cards of many replicas as the round began, and lasts, holds of all but t as many slips.
@@ -170,10 +170,10 @@ module _ (g : Params) (fit : Fit g) (old : ℕ → Card) (own : ℕ) (ss : List 
       got = met _ (g.tolerated + 1) (λ c. k ≤ c.note) (λ c. k ≤ c.note) (omega arith) (λ c d h grown. omega (arith, grown.note)) x
 
       go : (k < highest ss) ⊎ ((k ≡ highest ss) × Noted ss (g.tolerated + 1)) → Decision g ss shown is_due → k < shown
-      go p (nothing h s f) = true_false is_due e f
-      go p (noted h s f) = true_false is_due e f
-      go p (seen h s f) = true_false is_due e f
-      go p (older h i s f) = true_false is_due e f
+      go p (nothing h s f) = absurd (both_ways is_due f e)
+      go p (noted h s f) = absurd (both_ways is_due f e)
+      go p (seen h s f) = absurd (both_ways is_due f e)
+      go p (older h i s f) = absurd (both_ways is_due f e)
       go (inl above) (due h i j s f) = omega arith
       go (inr p) (due h i j s f) = absurd (h p.1)
 
@@ -188,9 +188,9 @@ module _ (g : Params) (fit : Fit g) (now : ℕ → Card) (ss : List Slip)
       record {
         places = replicas_of x.chosen;
         distinct = x.distinct;
-        below = all_replicas (λ i. i < g.replicas) x.chosen (All-weaker (Has ss) (λ s. s.replica < g.replicas) (λ s h. all-has (λ s. s.replica < g.replicas) ss s below h) x.chosen x.from);
-        enough = omega (arith, x.enough, length_replicas x.chosen);
-        each = all_replicas (λ i. Q (now i)) x.chosen (go x.chosen x.from x.each);
+        below = All-map (λ i. i < g.replicas) (λ s. s.replica) x.chosen (All-weaker (Has ss) (λ s. s.replica < g.replicas) (λ s h. all-has (λ s. s.replica < g.replicas) ss s below h) x.chosen x.from);
+        enough = omega (arith, x.enough, length-map x.chosen (λ s. s.replica));
+        each = All-map (λ i. Q (now i)) (λ s. s.replica) x.chosen (go x.chosen x.from x.each);
       }
     where
       go : (xs : List Slip) → AllByRecursion (Has ss) xs → AllByRecursion (λ s. P s.card) xs → AllByRecursion (λ s. Q (now s.replica)) xs
@@ -217,13 +217,13 @@ module _ (g : Params) (fit : Fit g) (now : ℕ → Card) (ss : List Slip)
       witnessed x.factor x.common x.low (seen_factor x) (omega (arith, x.many))
       (many_from_several _ (λ c. (c.version ≡ highest ss) × Within x.common c.marks) (Ahead shown x.common)
       (λ c d p grown. ahead_stays shown x.common c d (inr (s ∙ sym p.0, p.1)) grown) x.replies)
-  decided_established shown is_due under (due h i j s f) e = true_false is_due f e
+  decided_established shown is_due under (due h i j s f) e = absurd (both_ways is_due e f)
   decided_established shown is_due under (older h i s f) e = under s
 
 -- A read that becomes due shows the highest version.
 pub due_shows_highest : (g : Params) (ss : List Slip) (shown : ℕ) → Decision g ss shown true → shown ≡ highest ss
-due_shows_highest g ss shown (nothing h s e) = true_false true refl e
+due_shows_highest g ss shown (nothing h s e) = absurd (true≢false e)
 due_shows_highest g ss shown (noted h s e) = s
 due_shows_highest g ss shown (seen h s e) = s
 due_shows_highest g ss shown (due h i j s e) = s
-due_shows_highest g ss shown (older h i s e) = true_false true refl e
+due_shows_highest g ss shown (older h i s e) = absurd (true≢false e)

@@ -1,6 +1,6 @@
 -- Calls come to an end: ends in `tells_calls`, the list of the ended calls is what the log says, and `all_end`, with no message waiting every call has ended or awaits its tell.
 use Rattle.std.proofs.Common.{◌≡◌, ℕ, suc, true, false, eqb, ◌⊎◌, List, [], ◌∷◌, length, ℤ, sym, refl, ap, ◌∙◌, subst, inl, inr, arith}
-use Rattle.std.proofs.lemmas.Bool.{cases_Bool, cases_eq, eqb-false}
+use Rattle.std.proofs.lemmas.Bool.{cases_Bool, cases_eq, eqb-false, false≢true}
 use Rattle.std.specs.List.{AllByRecursion}
 use Rattle.wire.specs.declared.message.Message.{Message}
 use Rattle.orders.specs.Answers.{listed_as}
@@ -13,9 +13,9 @@ use Rattle.laws.proofs.Model.{put, Kind, writes, reads, Phase, idle, due, awaiti
 use Rattle.laws.proofs.History.{begun, done}
 use Rattle.laws.proofs.Calls.{Starts, BeginsAt, NextEnd, AwaitsTell, Withdrawn, AllEnd, Tells}
 use Rattle.laws.proofs.Tables.{put_case, put_two}
-use Rattle.laws.proofs.Apart.{true_false, awaiting_not_due, awaiting_not_idle}
+use Rattle.laws.proofs.Apart.{awaiting_not_due, awaiting_not_idle}
 use Rattle.laws.proofs.Progress.{settles}
-use Rattle.laws.proofs.Tracking.{at_below, begins_below, begins_more, Open, Track, Apart, Tracked, track_quiet, apart_quiet, open_start, apart_start, the_next, track_end, apart_end, sound_more, faithful}
+use Rattle.laws.proofs.Tracking.{at_below, begins_below, at_more, Open, Track, Apart, Tracked, track_quiet, apart_quiet, open_start, apart_start, the_next, track_end, apart_end, sound_more, faithful}
 
 abbrev IsNoTell : Order → Type 0
 IsNoTell (Write v) = Unit {0}
@@ -57,7 +57,7 @@ module _ (g : Params) (f : ℤ) where
           | inl e ↦ subst (Apart (x ∷ log)) (sym e) (apart_end x log c (begun log c) (refl, refl) o (t.apart c))
           | inr e ↦ apart_quiet x log j (λ s. s.1) (λ s. e (sym s.1)) (t.apart j)
         ];
-        sound = ((begins_more x log c (begun log c) o.begins, the_next x log c (begun log c) (refl, refl) o), sound_more x log (done log) t.sound);
+        sound = ((at_more (Starts c) x log (begun log c) o.begins, the_next x log c (begun log c) (refl, refl) o), sound_more x log (done log) t.sound);
       }
 
   -- A call starts.
@@ -117,7 +117,7 @@ module _ (g : Params) (f : ℤ) where
       tracked_moved (x ∷ log₀) b₀.clients m.client y
       (λ h. subst (Track (x ∷ log₀) m.client (begun log₀ m.client)) (sym rest) (
         subst (Track (x ∷ log₀) m.client (begun log₀ m.client)) n.awaited h,
-        record { since = length log₀; after = begins_below log₀ m.client _ o.begins; due = (x, inl (refl, refl), refl, refl); untold = λ n lt q. absurd (let r : ⊥ = omega (arith, at_below (x ∷ log₀) n q.0 q.1) in r) },
+        record { since = length log₀; after = begins_below log₀ m.client _ o.begins; due = (x, inl (refl, refl), refl, refl); untold = λ n lt q. absurd (omega (arith, at_below (x ∷ log₀) n q.0 q.1)) },
       ))
       (tracked_quiet x log₀ b₀.clients (λ j s. s.1) refl (λ j q r. no_tell tt r.1) refl (tracked log₀ b₀ p))
   tracked log b (replica_gone {log = log₀} {b = b₀} i ms lt ni few p) = tracked_quiet _ log₀ b₀.clients (λ j s. s.1) refl (λ j q r. no_tell tt r.1) refl (tracked log₀ b₀ p)
@@ -134,7 +134,7 @@ withdrawn_more x log c h = (h.0, (h.1.0, inr h.1.1, h.1.2, h.1.3))
 
 -- A client that is out was withdrawn.
 out_is_told : (g : Params) (f : ℤ) (log : List Entry) (b : State) → Trace g f log b → (c : ℕ) → b.client_out c ≡ true → Withdrawn log c
-out_is_told g f log b opening c h = true_false false h refl
+out_is_told g f log b opening c h = absurd (false≢true h)
 out_is_told g f log b (stirred {b = b₀} w same p) c h = out_is_told g f log b₀ p c h
 out_is_told g f log b (refused {log = log₀} o a ms q p) c h = withdrawn_more _ log₀ c (out_is_told g f log₀ b p c h)
 out_is_told g f log b (wrote {log = log₀} {b = b₀} v ms present rest p) c h = withdrawn_more _ log₀ c (out_is_told g f log₀ b₀ p c h)

@@ -1,6 +1,7 @@
 -- One line of the operations of a past, from the line of the model's calls. It ends in `from_line`.
 use Rattle.std.proofs.Common.{◌≡◌, ℕ, zero, suc, ◌≤◌, Bool, true, false, ◌⊎◌, List, [], ◌∷◌, map, ℤ, Some, None, Option, sym, refl, ap, ◌∙◌, subst, inl, inr, arith}
 use Rattle.std.specs.List.{ContainsAt as Has, AllByRecursion}
+use Rattle.std.proofs.lemmas.Option.{none-some, same_Some}
 use Rattle.std.proofs.ByRecursion.{All-weaker, all-has, All-map, all_has_itself}
 use Rattle.std.proofs.lemmas.Bool.{cases_Bool, cases_eq}
 use Rattle.orders.specs.declared.order.Order.{Order}
@@ -9,6 +10,7 @@ use Rattle.register.specs.Past.{Entry}
 use Rattle.laws.specs.Operations.{Operation, EndsAt, Ending, IsWrite, IsRead, Shown, Belongs}
 use Rattle.laws.specs.Laws.{Before, InOrder, NoTwice, ShowsNearest, OneLine}
 use Rattle.laws.proofs.Sets.{Lacks, Distinct}
+use Rattle.laws.proofs.Members.{has_here, has_there}
 use Rattle.laws.proofs.History.{Done, values, value_at, begun, done}
 use Rattle.laws.proofs.Line.{Op, op, Respects, Shows, ends_of, Pending, Line}
 use Rattle.laws.proofs.Line as model
@@ -28,15 +30,9 @@ operation x = record { client = x.client; begin = x.begin; end = end_of x.ended 
 -- ---- lists
 
 has_map : {X Y : Type 0} (g : X → Y) (xs : List X) (x : X) → Has xs x → Has (map g xs) (g x)
-has_map g [] x h = absurd (let r : ⊥ = omega (arith, h.1) in r)
+has_map g [] x h = absurd (omega (arith, h.1))
 has_map g (y ∷ ys) x (zero, l, at) = (zero, omega arith, λ d. ap g (at x))
 has_map g (y ∷ ys) x (suc k, l, at) = let r = has_map g ys x (k, omega (arith, l), at) in (suc r.0, omega (arith, r.1), r.2)
-
-has_first : {X : Type 0} (x : X) (xs : List X) → Has (x ∷ xs) x
-has_first x xs = (0, omega arith, λ d. refl)
-
-has_later : {X : Type 0} (x y : X) (xs : List X) → Has xs y → Has (x ∷ xs) y
-has_later x y xs h = (suc h.0, omega (arith, h.1), h.2)
 
 abbrev made : ℕ → ℕ → Option ℕ → ℕ → ℤ → Operation
 made c b e v z = record { client = c; begin = b; end = e; version = v; value = z }
@@ -46,12 +42,6 @@ same_operation o p c b e v z =
     ap (λ i. made i o.begin o.end o.version o.value) c ∙ ap (λ i. made p.client i o.end o.version o.value) b ∙ ap (λ (t : Option ℕ). made p.client p.begin t o.version o.value) e
     ∙ ap (λ i. made p.client p.begin p.end i o.value) v ∙ ap (λ (i : ℤ). made p.client p.begin p.end p.version i) z
 
-some_same : (i j : ℕ) → ◌≡◌ {A = Option ℕ} (Some i) (Some j) → i ≡ j
-some_same i j e = cc
-
-none_some : (j : ℕ) → ◌≡◌ {A = Option ℕ} None (Some j) → ⊥
-none_some j e = let z : ◌≡◌ {A = ℕ} 0 1 = cc in omega arith
-
 write_same : (y z : ℤ) → Write y ≡ Write z → y ≡ z
 write_same y z e = cc
 
@@ -60,8 +50,8 @@ write_same y z e = cc
 before_of : (x y : Op) → Before (operation y) (operation x) → model.Before y x
 before_of x y h =
     elim (cases_Bool y.ended) [
-      | inl t ↦ (t, let e : y.end ≡ h.0 = some_same y.end h.0 (ap (λ b. end_of b y.end) (sym t) ∙ h.1) in omega (arith, e, h.2))
-      | inr t ↦ absurd (none_some h.0 (ap (λ b. end_of b y.end) (sym t) ∙ h.1))
+      | inl t ↦ (t, let e : y.end ≡ h.0 = same_Some y.end h.0 (ap (λ b. end_of b y.end) (sym t) ∙ h.1) in omega (arith, e, h.2))
+      | inr t ↦ absurd (none-some h.0 (ap (λ b. end_of b y.end) (sym t) ∙ h.1))
     ]
 
 in_order : (xs : List Op) → Respects xs → InOrder (map operation xs)
@@ -77,9 +67,9 @@ shows_nearest v z (x ∷ xs) (inr h) = inr (h.0, h.1, h.2, shows_nearest v z xs 
 shown_stands : (v : ℕ) (z : ℤ) (xs : List Op) → Shows v z xs → AllByRecursion (λ x. (x.client ≡ 0 → ⊥) → (x.version ≡ v) ⊎ ((y : Op) × Has xs y × (y.client ≡ 0) × (y.version ≡ x.version))) xs
 shown_stands v z [] h = tt
 shown_stands v z (x ∷ xs) (inl h) =
-    ((λ r. absurd (r h.0)), All-weaker _ _ (λ y p r. elim (p r) [ inl e ↦ inr (x, has_first x xs, h.0, sym e) | inr q ↦ inr (q.0, has_later x q.0 xs q.1, q.2, q.3) ]) xs (shown_stands x.version x.value xs h.1))
+    ((λ r. absurd (r h.0)), All-weaker _ _ (λ y p r. elim (p r) [ inl e ↦ inr (x, has_here x xs, h.0, sym e) | inr q ↦ inr (q.0, has_there x q.0 xs q.1, q.2, q.3) ]) xs (shown_stands x.version x.value xs h.1))
 shown_stands v z (x ∷ xs) (inr h) =
-    ((λ r. inl h.1), All-weaker _ _ (λ y p r. elim (p r) [ inl e ↦ inl e | inr q ↦ inr (q.0, has_later x q.0 xs q.1, q.2, q.3) ]) xs (shown_stands v z xs h.3))
+    ((λ r. inl h.1), All-weaker _ _ (λ y p r. elim (p r) [ inl e ↦ inl e | inr q ↦ inr (q.0, has_there x q.0 xs q.1, q.2, q.3) ]) xs (shown_stands v z xs h.3))
 
 -- ---- a log with its line
 
@@ -126,17 +116,17 @@ module _ (f : ℤ) (log : List Entry) (none : AllByRecursion NoReadOfWriter log)
       let w = write_order f log none x.begin x.version h in
       record { client = c; start = accepted_told log (Write x.value) x.begin w.entry w.at w.accepted (w.order ∙ ap Write (sym z)); number = write_number log x.begin x.version h; ending = e }
 
-  -- the model's call of a write that ended
-  record EndedWrite (o : Operation) (j : ℕ) : Type 0 where
+  -- the model's call of an operation that ended
+  record EndedCall (o : Operation) (j : ℕ) : Type 0 where
     call : Done
     has : Has (done log) call
-    client : call.client ≡ 0
+    client : call.client ≡ o.client
     begin : call.begin ≡ o.begin
     end : call.end ≡ j
     version : call.version ≡ o.version
     value : call.value ≡ o.value
 
-  ended_write : (o : Operation) (j : ℕ) → IsWrite (oldest log) o → NextEnd log 0 o.begin j → EndedWrite o j
+  ended_write : (o : Operation) (j : ℕ) → IsWrite (oldest log) o → NextEnd log 0 o.begin j → EndedCall o j
   ended_write o j w n =
       let r = faith.complete 0 o.begin j (begins_write o.begin o.version (number_at o w)) n in
       let d = r.0 in
@@ -144,7 +134,7 @@ module _ (f : ℤ) (log : List Entry) (none : AllByRecursion NoReadOfWriter log)
       record {
         call = d;
         has = r.1;
-        client = r.2;
+        client = r.2 ∙ sym w.client;
         begin = r.3;
         end = r.4;
         version = v;
@@ -178,17 +168,7 @@ module _ (f : ℤ) (log : List Entry) (none : AllByRecursion NoReadOfWriter log)
         value = s.1;
       }
 
-  -- the model's call of a read
-  record EndedRead (o : Operation) (j : ℕ) : Type 0 where
-    call : Done
-    has : Has (done log) call
-    client : call.client ≡ o.client
-    begin : call.begin ≡ o.begin
-    end : call.end ≡ j
-    version : call.version ≡ o.version
-    value : call.value ≡ o.value
-
-  ended_read : (o : Operation) → (r : IsRead (oldest log) o) → EndedRead o r.place
+  ended_read : (o : Operation) → (r : IsRead (oldest log) o) → EndedCall o r.place
   ended_read o r =
       let s = faith.complete o.client o.begin r.place (begins_log log o.client o.begin (inr (r.client, r.start))) (next_log log o.client o.begin r.place r.ends) in
       let t = said log s.0 s.1 r.place r.ends.entry s.4 (at_log log r.place r.ends.entry r.ends.at) in
@@ -256,14 +236,17 @@ module _ (f : ℤ) (log : List Entry) (none : AllByRecursion NoReadOfWriter log)
   has_call : (d : Done) → Has (done log) d → (o : Operation) → operation (op d) ≡ o → Has (map operation on.line) o
   has_call d h o e = subst (Has (map operation on.line)) e (has_map operation on.line (op d) (stands d h))
 
+  has_ended : (o : Operation) (j : ℕ) → o.end ≡ Some j → EndedCall o j → Has (map operation on.line) o
+  has_ended o j e s = has_call s.call s.has o (same_operation _ o s.client s.begin (ap Some s.end ∙ sym e) s.version s.value)
+
   has_read : (o : Operation) → IsRead (oldest log) o → Has (map operation on.line) o
-  has_read o r = let s = ended_read o r in has_call s.call s.has o (same_operation _ o s.client s.begin (ap Some s.end ∙ sym r.end) s.version s.value)
+  has_read o r = has_ended o r.place r.end (ended_read o r)
 
   -- an unended write that a read shows
   has_unended : (o : Operation) → IsWrite (oldest log) o → o.end ≡ None → ((j : ℕ) → EndsAt (oldest log) 0 o.begin j → ⊥) → (d : Done) → Has (done log) d → (d.client ≡ 0 → ⊥) → d.version ≡ o.version → Has (map operation on.line) o
   has_unended o w e n d h reader v =
       elim (all-has (λ x. (x.client ≡ 0 → ⊥) → (x.version ≡ 0) ⊎ ((y : Op) × Has on.line y × (y.client ≡ 0) × (y.version ≡ x.version))) on.line (op d) (shown_stands 0 f on.line on.shows) (stands d h) reader) [
-        | inl z ↦ absurd (let r : ⊥ = omega (arith, z, v, w.number) in r)
+        | inl z ↦ absurd (omega (arith, z, v, w.number))
         | inr q ↦ elim (only_of q.0 q.1) [
           | inl r ↦ absurd (ended r (sym (ap (λ (o : Op). o.client) r.2) ∙ q.2) (sym (ap (λ (o : Op). o.version) r.2) ∙ q.3 ∙ v))
           | inr p ↦ (let u = q.3 ∙ v in
@@ -284,12 +267,10 @@ module _ (f : ℤ) (log : List Entry) (none : AllByRecursion NoReadOfWriter log)
   has_write o w why = go o.end refl w.ending
     where
       go : (t : Option ℕ) → o.end ≡ t → Ending (oldest log) 0 o.begin t → Has (map operation on.line) o
-      go (Some j) e n =
-          let s = ended_write o j w (next_log log 0 o.begin j n) in
-          has_call s.call s.has o (same_operation _ o (s.client ∙ sym w.client) s.begin (ap Some s.end ∙ sym e) s.version s.value)
+      go (Some j) e n = has_ended o j e (ended_write o j w (next_log log 0 o.begin j n))
       go None e n =
           elim why [
-            | inl q ↦ absurd (none_some q.0 (sym e ∙ q.1))
+            | inl q ↦ absurd (none-some q.0 (sym e ∙ q.1))
             | inr q ↦ (let s = ended_read q.0 q.1 in has_unended o w e n s.call s.has (λ c. q.1.client (sym s.client ∙ c)) (s.version ∙ q.2))
           ]
 

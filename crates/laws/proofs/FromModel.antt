@@ -8,7 +8,10 @@ use Rattle.laws.specs.Laws.{AllEnded, Lawful, Laws}
 use Rattle.laws.proofs.Cards.{Fit}
 use Rattle.laws.proofs.Model.{State, Trace}
 use Rattle.laws.proofs.Matching.{params_of, msg_of, AllTraced}
-use Rattle.laws.proofs.ModelLaws.{linearizable, semi_fast, all_end, tells_calls, numbered}
+use Rattle.laws.proofs.OneLine.{linearizable}
+use Rattle.laws.proofs.Rounds.{semi_fast}
+use Rattle.laws.proofs.Ending.{all_end, tells_calls}
+use Rattle.laws.proofs.Numbering.{numbered}
 use Rattle.laws.proofs.Places.{oldest, oldest_reverse, all_oldest, NoReadOfWriter, begins_log, next_told, withdrawn_told, awaits_told}
 use Rattle.laws.proofs.Sent.{Regular, regular}
 use Rattle.laws.proofs.Spans.{told_size}

@@ -1,6 +1,7 @@
 -- The rounds of the operations of a past, from those of the model's calls. It ends in `from_rounds`.
-use Rattle.std.proofs.Common.{◌≡◌, ℕ, zero, suc, ◌+◌, ◌*◌, ◌<◌, ◌≤◌, ◌⊎◌, List, Some, Option, sym, ◌∙◌, subst, inl, inr, arith}
+use Rattle.std.proofs.Common.{◌≡◌, ℕ, zero, suc, ◌+◌, ◌*◌, ◌<◌, ◌≤◌, ◌⊎◌, List, sym, ◌∙◌, subst, inl, inr, arith}
 use Rattle.std.specs.List.{ContainsAt as Has, AllByRecursion}
+use Rattle.std.proofs.lemmas.Option.{same_Some}
 use Rattle.std.proofs.ByRecursion.{all-has}
 use Rattle.orders.specs.Answers.{listed_as}
 use Rattle.register.specs.declared.settings.Checked.{Checked}
@@ -51,9 +52,6 @@ module _ (k : Checked) (small : told_size k ≤ k.replicas) (log : List Entry) (
   one_or_two : (d : Done) → Has (done log) d → (d.rounds ≡ 1) ⊎ ((d.rounds ≡ 2) × (d.client ≡ 0 → ⊥))
   one_or_two d h = all-has (λ d. (d.rounds ≡ 1) ⊎ ((d.rounds ≡ 2) × (d.client ≡ 0 → ⊥))) (done log) d few.few h
 
-  some_same : (i j : ℕ) → ◌≡◌ {A = Option ℕ} (Some i) (Some j) → i ≡ j
-  some_same i j e = cc
-
   pub from_rounds : FewRounds k (oldest log)
   from_rounds =
       record {
@@ -69,7 +67,7 @@ module _ (k : Checked) (small : told_size k ≤ k.replicas) (log : List Entry) (
         apart = λ o p x y n m v b.
             let r = the_call o.client o.begin x.place (inr (x.client, x.start)) x.ends in
             let s = the_call p.client p.begin y.place (inr (y.client, y.start)) y.ends in
-            let e : x.place ≡ b.0 = some_same x.place b.0 (sym x.end ∙ b.1) in
+            let e : x.place ≡ b.0 = same_Some x.place b.0 (sym x.end ∙ b.1) in
             let rest = all-has (λ y. AllByRecursion (λ x. x.rounds ≡ 2 → y.rounds ≡ 2 → x.version ≡ y.version → x.end < y.begin → ⊥) (done log)) (done log) s.call few.apart s.has in
             all-has (λ x. x.rounds ≡ 2 → s.call.rounds ≡ 2 → x.version ≡ s.call.version → x.end < s.call.begin → ⊥) (done log) r.call rest r.has
             (sym r.rounds ∙ n) (sym s.rounds ∙ m) (r.version ∙ sym x.version ∙ v ∙ y.version ∙ sym s.version) (omega (arith, r.end, e, b.2, s.begin));
@@ -79,4 +77,4 @@ module _ (k : Checked) (small : told_size k ≤ k.replicas) (log : List Entry) (
       bounded c i j zero l h = omega (arith, h)
       bounded c i j (suc zero) l h = omega (arith, h)
       bounded c i j (suc (suc zero)) l h = omega (arith, h)
-      bounded c i j (suc (suc (suc n))) l h = absurd (let r : ⊥ = omega arith in r)
+      bounded c i j (suc (suc (suc n))) l h = absurd (omega arith)

@@ -5,7 +5,7 @@ use Rattle.std.proofs.lemmas.Bool.{cases_eq, cond_both, ltb-false, ltb-true}
 use Rattle.std.specs.List.{ContainsAt as Has, AllByRecursion}
 use Rattle.laws.proofs.Sets.{Lacks, Distinct}
 use Rattle.laws.proofs.Line.{Op, Before, Respects, Shows, ends_of}
-use Rattle.laws.proofs.Members.{has_here, has_there}
+use Rattle.laws.proofs.Members.{has_here, has_there, Among, all_among, all_zip}
 
 abbrev pub read_bit : ℕ → ℕ
 read_bit zero = 0
@@ -41,24 +41,19 @@ abbrev pub Sorted : List Op → Type 0
 Sorted [] = Unit {0}
 Sorted (x ∷ xs) = AllByRecursion (λ y. key x ≤ key y) xs × Sorted xs
 
--- the call is in the line, by cases
-abbrev pub In : Op → List Op → Type 0
-In x [] = ⊥
-In x (y ∷ ys) = (x ≡ y) ⊎ In x ys
-
 pub all_insert : (P : Op → Type 0) (d : Op) (xs : List Op) → P d → AllByRecursion P xs → AllByRecursion P (insert d xs)
 all_insert P d [] p h = (p, tt)
 all_insert P d (x ∷ xs) p h =
     cond_both (ltb (key d) (key x)) _ _ (AllByRecursion P) (λ e. (p, h)) (λ e. (h.0, all_insert P d xs p h.1))
 
-pub in_insert : (d : Op) (xs : List Op) → In d (insert d xs)
+pub in_insert : (d : Op) (xs : List Op) → Among d (insert d xs)
 in_insert d [] = inl refl
-in_insert d (x ∷ xs) = cond_both (ltb (key d) (key x)) _ _ (In d) (λ e. inl refl) (λ e. inr (in_insert d xs))
+in_insert d (x ∷ xs) = cond_both (ltb (key d) (key x)) _ _ (Among d) (λ e. inl refl) (λ e. inr (in_insert d xs))
 
-pub in_insert_more : (d y : Op) (xs : List Op) → In y xs → In y (insert d xs)
+pub in_insert_more : (d y : Op) (xs : List Op) → Among y xs → Among y (insert d xs)
 in_insert_more d y [] h = absurd h
 in_insert_more d y (x ∷ xs) h =
-    cond_both (ltb (key d) (key x)) _ _ (In y) (λ e. inr h) (λ e. elim h [ inl p ↦ inl p | inr p ↦ inr (in_insert_more d y xs p) ])
+    cond_both (ltb (key d) (key x)) _ _ (Among y) (λ e. inr h) (λ e. elim h [ inl p ↦ inl p | inr p ↦ inr (in_insert_more d y xs p) ])
 
 pub sorted_insert : (d : Op) (xs : List Op) → Sorted xs → Sorted (insert d xs)
 sorted_insert d [] h = (tt, tt)
@@ -90,11 +85,7 @@ once_insert d (x ∷ xs) h new =
     cond_both (ltb (key d) (key x)) _ _ (λ (ys : List Op). Distinct (ends_of ys)) (λ e. (new, h))
     (λ e. (lacks_insert x.end d xs (λ q. new.0 (sym q)) h.0, once_insert d xs h.1 new.1))
 
-pub all_ends : (P : ℕ → Type 0) (xs : List Op) → AllByRecursion (λ x. P x.end) xs → AllByRecursion P (ends_of xs)
-all_ends P [] h = tt
-all_ends P (x ∷ xs) h = (h.0, all_ends P xs h.1)
-
-pub in_has : (x : Op) (xs : List Op) → In x xs → Has xs x
+pub in_has : (x : Op) (xs : List Op) → Among x xs → Has xs x
 in_has x [] i = absurd i
 in_has x (y ∷ ys) (inl e) = subst (Has (y ∷ ys)) (sym e) (has_here y ys)
 in_has x (y ∷ ys) (inr i) = has_there y x ys (in_has x ys i)
@@ -104,7 +95,7 @@ in_has x (y ∷ ys) (inr i) = has_there y x ys (in_has x ys i)
 -- a write of that version and value is in the line
 pub record HasWrite (v : ℕ) (z : ℤ) (xs : List Op) : Type 0 where
   pub call : Op
-  pub has : In call xs
+  pub has : Among call xs
   pub writer : call.client ≡ 0
   pub version : call.version ≡ v
   pub value : call.value ≡ z
@@ -119,15 +110,6 @@ one_write_insert d [] s a = (tt, tt)
 one_write_insert d (x ∷ xs) s a =
     cond_both (ltb (key d) (key x)) _ _ OneWrite (λ e. (a, s))
     (λ e. (all_insert _ d xs (λ p q r. a.0 q p (sym r)) s.0, one_write_insert d xs s.1 a.1))
-
-all_in : (P : Op → Type 0) (x : Op) (xs : List Op) → AllByRecursion P xs → In x xs → P x
-all_in P x [] h i = absurd i
-all_in P x (y ∷ ys) h (inl e) = subst P (sym e) h.0
-all_in P x (y ∷ ys) h (inr i) = all_in P x ys h.1 i
-
-all_zip : (P Q R : Op → Type 0) → ((x : Op) → P x → Q x → R x) → (xs : List Op) → AllByRecursion P xs → AllByRecursion Q xs → AllByRecursion R xs
-all_zip P Q R f [] p q = tt
-all_zip P Q R f (x ∷ xs) p q = (f x p.0 q.0, all_zip P Q R f xs p.1 q.1)
 
 -- In a sorted line each read shows the nearest write before it, if its write is in the line, or it shows what stood before the line.
 pub sorted_shows : (v : ℕ) (z : ℤ) (xs : List Op) → Sorted xs → OneWrite xs → AllByRecursion (λ x. x.client ≡ 0 → v < x.version) xs
@@ -149,7 +131,7 @@ sorted_shows v z (x ∷ xs) s u a r =
     late c e =
         elim e.has [
           | inl q ↦ c (ap (λ (o : Op). o.client) (sym q) ∙ e.writer)
-          | inr q ↦ (let le : key x ≤ key e.call = all_in (λ y. key x ≤ key y) e.call xs s.0 q in
+          | inr q ↦ (let le : key x ≤ key e.call = all_among (λ y. key x ≤ key y) e.call xs s.0 q in
               let b1 = key_read x c in let b2 = key_write e.call e.writer in let ve = e.version in omega arith)
         ]
 

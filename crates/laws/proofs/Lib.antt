@@ -27,7 +27,6 @@ pub mod Progress
 pub mod Tracking
 pub mod Ending
 pub mod Numbering
-pub mod ModelLaws
 pub mod Matching
 pub mod MatchTables
 pub mod MatchOpening

@@ -1,5 +1,5 @@
 -- One line of all calls of a log.
-use Rattle.std.proofs.Common.{◌≡◌, ℕ, ◌<◌, ◌≤◌, Bool, true, false, ◌⊎◌, List, [], ◌∷◌, length, ℤ}
+use Rattle.std.proofs.Common.{◌≡◌, ℕ, ◌<◌, ◌≤◌, Bool, true, false, ◌⊎◌, List, [], ◌∷◌, map, length, ℤ}
 use Rattle.std.specs.List.{ContainsAt as Has, AllByRecursion}
 use Rattle.laws.proofs.Sets.{Distinct}
 use Rattle.laws.proofs.Cards.{Params, Fit}
@@ -35,8 +35,7 @@ Shows v z (x ∷ xs) =
     ((x.client ≡ 0) × Shows x.version x.value xs) ⊎ ((x.client ≡ 0 → ⊥) × (x.version ≡ v) × (x.value ≡ z) × Shows v z xs)
 
 abbrev pub ends_of : List Op → List ℕ
-ends_of [] = []
-ends_of (x ∷ xs) = x.end ∷ ends_of xs
+ends_of xs = map (λ x. x.end) xs
 
 -- an ended write, or read, of that version
 pub record Wrote (ds : List Done) (v : ℕ) : Type 0 where

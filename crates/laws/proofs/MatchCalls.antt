@@ -22,19 +22,21 @@ use Rattle.register.specs.State.{client_at, with_client, blank_client, mark_of}
 use Rattle.register.specs.Calls as calls
 use Rattle.register.specs.Calls.{toward, copies, outgoing, raised, is_idle, is_due, refusal, accepted, put_out, named, unless, answer_by}
 use Rattle.register.specs.Past.{World, Entry, Called, sent_by}
+use Rattle.laws.proofs.Members.{Among}
 use Rattle.laws.proofs.Cards.{Card}
 use Rattle.laws.proofs.Model as model
-use Rattle.laws.proofs.Model.{entry, put, Msg, InW, Same, sent}
+use Rattle.laws.proofs.Model.{entry, put, Msg, Same, sent}
 use Rattle.laws.proofs.Matching.{params_of, msg_of, Proper, ReceiptsMatch, ReadingsMatch, PhasesMatch, RoundsLeft, ClientMatches, ClientsMatch, OutsMatch, RegisterMatches, Matches}
-use Rattle.laws.proofs.MatchTables.{each_set, each_set_beside, in_left, in_right, in_cases, same_self}
+use Rattle.laws.proofs.Waiting.{waits_behind}
+use Rattle.laws.proofs.MatchTables.{each_set, each_set_beside, in_left, in_cases, same_self}
 use Rattle.laws.proofs.MatchReached.{Reached, reached_with, refused_reaches}
 
 -- ---- the messages of a set
 
 same_append : (u v w : List Msg) → Same u v → Same (u ++ w) (v ++ w)
 same_append u v w s x = (
-  λ h. elim (in_cases x u w h) [ inl i ↦ in_left x v w ((s x).0 i) | inr i ↦ in_right x v w i ],
-  λ h. elim (in_cases x v w h) [ inl i ↦ in_left x u w ((s x).1 i) | inr i ↦ in_right x u w i ],
+  λ h. elim (in_cases x u w h) [ inl i ↦ in_left x v w ((s x).0 i) | inr i ↦ waits_behind x v w i ],
+  λ h. elim (in_cases x v w h) [ inl i ↦ in_left x u w ((s x).1 i) | inr i ↦ waits_behind x u w i ],
 )
 
 -- a message of a set, as the model has it
@@ -42,26 +44,26 @@ abbrev aimed : model.Kind → ℕ → ℕ → Card → ℕ → Msg
 aimed kd c r d i = record { reply = false; kind = kd; replica = i; client = c; round = r; card = d }
 
 module _ (m : Message) (kd : model.Kind) (c r : ℕ) (d : Card) (is : (i : ℕ) → msg_of (toward m i) ≡ aimed kd c r d i) where
-  more_same : (n : ℕ) (x : Msg) → (InW x (sent kd c r d n) → InW x (map msg_of (copies m n))) × (InW x (map msg_of (copies m n)) → InW x (sent kd c r d n))
-      → (InW x (sent kd c r d (suc n)) → InW x (map msg_of (copies m n) ++ msg_of (toward m n) ∷ [])) × (InW x (map msg_of (copies m n) ++ msg_of (toward m n) ∷ []) → InW x (sent kd c r d (suc n)))
+  more_same : (n : ℕ) (x : Msg) → (Among x (sent kd c r d n) → Among x (map msg_of (copies m n))) × (Among x (map msg_of (copies m n)) → Among x (sent kd c r d n))
+      → (Among x (sent kd c r d (suc n)) → Among x (map msg_of (copies m n) ++ msg_of (toward m n) ∷ [])) × (Among x (map msg_of (copies m n) ++ msg_of (toward m n) ∷ []) → Among x (sent kd c r d (suc n)))
   more_same n x h = (into, back)
     where
-      into : InW x (sent kd c r d (suc n)) → InW x (map msg_of (copies m n) ++ msg_of (toward m n) ∷ [])
-      into (inl e) = in_right x (map msg_of (copies m n)) (msg_of (toward m n) ∷ []) (inl (e ∙ sym (is n)))
+      into : Among x (sent kd c r d (suc n)) → Among x (map msg_of (copies m n) ++ msg_of (toward m n) ∷ [])
+      into (inl e) = waits_behind x (map msg_of (copies m n)) (msg_of (toward m n) ∷ []) (inl (e ∙ sym (is n)))
       into (inr i) = in_left x (map msg_of (copies m n)) (msg_of (toward m n) ∷ []) (h.0 i)
 
-      last : InW x (msg_of (toward m n) ∷ []) → InW x (sent kd c r d (suc n))
+      last : Among x (msg_of (toward m n) ∷ []) → Among x (sent kd c r d (suc n))
       last (inl e) = inl (e ∙ is n)
       last (inr i) = elim i [ ]
 
-      back : InW x (map msg_of (copies m n) ++ msg_of (toward m n) ∷ []) → InW x (sent kd c r d (suc n))
+      back : Among x (map msg_of (copies m n) ++ msg_of (toward m n) ∷ []) → Among x (sent kd c r d (suc n))
       back i = elim (in_cases x (map msg_of (copies m n)) (msg_of (toward m n) ∷ []) i) [ inl j ↦ inr (h.1 j) | inr j ↦ last j ]
 
   copies_same : (n : ℕ) → Same (sent kd c r d n) (map msg_of (copies m n))
   copies_same zero x = (λ h. h, λ h. h)
   copies_same (suc n) x =
       let e : map msg_of (copies m n ++ toward m n ∷ []) ≡ map msg_of (copies m n) ++ msg_of (toward m n) ∷ [] = map-append msg_of (copies m n) (toward m n ∷ []) in
-      subst (λ w. (InW x (sent kd c r d (suc n)) → InW x w) × (InW x w → InW x (sent kd c r d (suc n)))) (sym e) (more_same n x (copies_same n x))
+      subst (λ w. (Among x (sent kd c r d (suc n)) → Among x w) × (Among x w → Among x (sent kd c r d (suc n)))) (sym e) (more_same n x (copies_same n x))
 
   set_same : (n j : ℕ) (vs : List Message) → n ≡ j → Same (sent kd c r d n ++ map msg_of vs) (map msg_of (copies m j ++ vs))
   set_same n j vs e =
@@ -82,50 +84,53 @@ mark_byte k c =
 
 -- ---- refusals
 
-not_refused : (b : Bool) (x : Refusal) (y : Option Refusal) → cond b (Some x) y ≡ None → (b ≡ false) × (y ≡ None)
-not_refused true x y e = absurd (let z : ◌≡◌ {A = ℕ} 0 1 = cc in let w : ⊥ = omega arith in w)
+pub not_refused : {A : Type 0} (b : Bool) (x : A) (y : Option A) → cond b (Some x) y ≡ None → (b ≡ false) × (y ≡ None)
+not_refused true x y e = grind arith
 not_refused false x y e = (refl, e)
 
 -- what an accepted write, read and tell passed
-write_passed : (r : Register) (room : Bool) (z : ℤ) → calls.write_refusal r room z ≡ None → ((client_at r 0).out ≡ false) × (is_idle (client_at r 0).phase ≡ true) × ((client_at r 0).round < 2000000)
+pub write_passed : (r : Register) (room : Bool) (z : ℤ) → calls.write_refusal r room z ≡ None → ((client_at r 0).out ≡ false) × (is_idle (client_at r 0).phase ≡ true) × ((client_at r 0).round < 2000000) × (room ≡ true)
 write_passed r room z e =
     let e0 = not_refused _ _ _ e in
     let e1 = not_refused _ _ _ e0.1 in
     let e2 = not_refused _ _ _ e1.1 in
     let e3 = not_refused _ _ _ e2.1 in
-    (e0.0, not-false _ e1.0, leb-false _ _ e3.0)
+    let e4 = not_refused _ _ _ e3.1 in
+    (e0.0, not-false _ e1.0, leb-false _ _ e3.0, not-false _ e4.0)
 
-read_passed : (r : Register) (room : Bool) (c : ℕ) → calls.read_refusal r room c ≡ None → (calls.no_reader r c ≡ false) × ((client_at r c).out ≡ false) × (is_idle (client_at r c).phase ≡ true) × ((client_at r c).round < 2000000)
+pub read_passed : (r : Register) (room : Bool) (c : ℕ) → calls.read_refusal r room c ≡ None → (calls.no_reader r c ≡ false) × ((client_at r c).out ≡ false) × (is_idle (client_at r c).phase ≡ true) × ((client_at r c).round < 2000000) × (room ≡ true)
 read_passed r room c e =
     let e0 = not_refused _ _ _ e in
     let e1 = not_refused _ _ _ e0.1 in
     let e2 = not_refused _ _ _ e1.1 in
     let e3 = not_refused _ _ _ e2.1 in
-    (e0.0, e1.0, not-false _ e2.0, leb-false _ _ e3.0)
+    let e4 = not_refused _ _ _ e3.1 in
+    (e0.0, e1.0, not-false _ e2.0, leb-false _ _ e3.0, not-false _ e4.0)
 
-tell_passed : (r : Register) (room : Bool) (c : ℕ) → calls.tell_refusal r room c ≡ None → (calls.no_reader r c ≡ false) × ((client_at r c).out ≡ false) × (is_due (client_at r c).phase ≡ true)
+pub tell_passed : (r : Register) (room : Bool) (c : ℕ) → calls.tell_refusal r room c ≡ None → (calls.no_reader r c ≡ false) × ((client_at r c).out ≡ false) × (is_due (client_at r c).phase ≡ true) × (room ≡ true)
 tell_passed r room c e =
     let e0 = not_refused _ _ _ e in
     let e1 = not_refused _ _ _ e0.1 in
     let e2 = not_refused _ _ _ e1.1 in
-    (e0.0, e1.0, not-false _ e2.0)
+    let e3 = not_refused _ _ _ e2.1 in
+    (e0.0, e1.0, not-false _ e2.0, not-false _ e3.0)
 
 reader_below : (r : Register) (c : ℕ) → calls.no_reader r c ≡ false → c ≤ r.settings.readers
 reader_below r c e = ltb-false r.settings.readers c (or_parts (eqb c 0) (ltb r.settings.readers c) e).1
 
 idle_matches : (k : Checked) (p : Phase) (q : model.Phase) → is_idle p ≡ true → PhasesMatch k p q → q ≡ model.idle
 idle_matches k Idle q e h = h
-idle_matches k (Writing rs) q e h = absurd (let z : ◌≡◌ {A = ℕ} 0 1 = cc in let w : ⊥ = omega arith in w)
-idle_matches k (Asking rs) q e h = absurd (let z : ◌≡◌ {A = ℕ} 0 1 = cc in let w : ⊥ = omega arith in w)
-idle_matches k Due q e h = absurd (let z : ◌≡◌ {A = ℕ} 0 1 = cc in let w : ⊥ = omega arith in w)
-idle_matches k (Telling rs) q e h = absurd (let z : ◌≡◌ {A = ℕ} 0 1 = cc in let w : ⊥ = omega arith in w)
+idle_matches k (Writing rs) q e h = grind arith
+idle_matches k (Asking rs) q e h = grind arith
+idle_matches k Due q e h = grind arith
+idle_matches k (Telling rs) q e h = grind arith
 
 due_matches : (k : Checked) (p : Phase) (q : model.Phase) (n : ℕ) → is_due p ≡ true → PhasesMatch k p q → RoundsLeft p n → (q ≡ model.due) × (n ≤ 2000000)
-due_matches k Idle q n e h l = absurd (let z : ◌≡◌ {A = ℕ} 0 1 = cc in let w : ⊥ = omega arith in w)
-due_matches k (Writing rs) q n e h l = absurd (let z : ◌≡◌ {A = ℕ} 0 1 = cc in let w : ⊥ = omega arith in w)
-due_matches k (Asking rs) q n e h l = absurd (let z : ◌≡◌ {A = ℕ} 0 1 = cc in let w : ⊥ = omega arith in w)
+due_matches k Idle q n e h l = grind arith
+due_matches k (Writing rs) q n e h l = grind arith
+due_matches k (Asking rs) q n e h l = grind arith
 due_matches k Due q n e h l = (h, l)
-due_matches k (Telling rs) q n e h l = absurd (let z : ◌≡◌ {A = ℕ} 0 1 = cc in let w : ⊥ = omega arith in w)
+due_matches k (Telling rs) q n e h l = grind arith
 
 -- ---- clients that start a round
 
@@ -200,7 +205,7 @@ module _ (k : Checked) (log : List Entry) (v w : World) (b : model.State) (t : m
       (λ i. cc) (lit≤ tt) (lit≤ tt) refl (mark_byte r.settings 0) (sym all) (omega arith) reg s
 
   pub asked_reaches : (c : ℕ) → refusal r v.places (Read c) ≡ None → w.register ≡ accepted r (Read c) → IsPermutation w.waiting (put_out r (Read c) ++ v.waiting) → Reached k (entry (Read c) (Accepted c) ms ∷ log) w
-  asked_reaches zero e reg s = absurd (let z : ◌≡◌ {A = ℕ} 0 1 = cc in let w : ⊥ = omega arith in w)
+  asked_reaches zero e reg s = grind arith
   asked_reaches (suc c) e reg s =
       let p = read_passed r (leb (calls.all_of r) v.places) (suc c) e in
       let same : r.settings ≡ k = h.register.settings in
@@ -224,7 +229,7 @@ module _ (k : Checked) (log : List Entry) (v w : World) (b : model.State) (t : m
       (λ i. cc) (lit≤ tt) (lit≤ tt) refl (mark_byte r.settings (suc c)) (sym all) (omega arith) reg s
 
   pub told_reaches : (c : ℕ) → refusal r v.places (Tell c) ≡ None → w.register ≡ accepted r (Tell c) → IsPermutation w.waiting (put_out r (Tell c) ++ v.waiting) → Reached k (entry (Tell c) (Accepted c) ms ∷ log) w
-  told_reaches zero e reg s = absurd (let z : ◌≡◌ {A = ℕ} 0 1 = cc in let w : ⊥ = omega arith in w)
+  told_reaches zero e reg s = grind arith
   told_reaches (suc c) e reg s =
       let p = tell_passed r (leb (calls.told_of r) v.places) (suc c) e in
       let same : r.settings ≡ k = h.register.settings in
@@ -258,7 +263,7 @@ count_below p i (suc n) l =
     omega arith
 
 count_put : (p : ℕ → Bool) (i n : ℕ) → i < n → p i ≡ false → model.out_count (put p i true) n ≡ model.out_count p n + 1
-count_put p i zero l f = absurd (let z : ⊥ = omega arith in z)
+count_put p i zero l f = absurd (omega arith)
 count_put p i (suc n) l f =
     elim (cases_eq n i) [
       | inl q ↦

@@ -1,14 +1,16 @@
--- A message that is taken from the channel: it is never stray, and one that does nothing is lost in the model too. It ends in `nothing_reaches`.
-use Rattle.std.proofs.Common.{◌≡◌, ◌≤◌, true, false, ltb, leb, ◌⊎◌, List, ◌∷◌, map, refl, ap, ◌∙◌, arith}
+-- A message that is taken from the channel: it is never stray, and one that does nothing is lost in the model too. It ends in `lost_reaches`.
+use Rattle.std.proofs.Common.{◌≡◌, ◌≤◌, true, false, ltb, leb, ◌⊎◌, List, [], ◌∷◌, ◌++◌, map, Option, sym, refl, ap, ◌∙◌, subst, arith}
+use Rattle.std.specs.Option.{option_to_list}
 use Rattle.std.specs.List.{AllByRecursion}
 use Rattle.std.specs.List.Sorted.{IsPermutation}
 use Rattle.std.proofs.lemmas.Bool.{le-ltb, lt-leb, or_from, cond-true, cond-false}
 use Rattle.wire.specs.declared.message.Message.{Message}
 use Rattle.orders.specs.declared.order.Order.TheVariants.{Carry}
 use Rattle.orders.specs.declared.answer.Answer.{Answer}
+use Rattle.orders.specs.declared.answer.Answer.TheVariants.{Lost}
 use Rattle.register.specs.declared.settings.Checked.{Checked}
 use Rattle.register.specs.declared.register.Register.{Register}
-use Rattle.register.specs.Handling.{is_stray, is_lost, to_replica, by_case}
+use Rattle.register.specs.Handling.{is_stray, is_lost, to_replica, by_case, handled, handled_answer, handled_reply}
 use Rattle.register.specs.Past.{World, Entry}
 use Rattle.laws.proofs.Cards.{Slip}
 use Rattle.laws.proofs.Model as model
@@ -61,3 +63,15 @@ nothing_reaches k log w r m rest a ms g q why h s =
     reached_with k (entry Carry a ms ∷ log) w w.register rest (model.drops g.state (map msg_of rest))
     (model.lost (msg_of m) (map msg_of rest) a ms q g.takes g.trace why) refl
     (register_drops k w.register g.state (map msg_of rest) h) s (same_self (map msg_of rest)) g.others
+
+-- a message that is lost, where the model says why
+pub lost_reaches : (k : Checked) (log : List Entry) (w : World) (r : Register) (m : Message) (rest : List Message) (a : Answer) (ms : List Message) (g : Taken k log r m rest)
+    → a ≡ handled_answer r m → w.register ≡ handled r m → ms ≡ option_to_list (handled_reply r m) → IsPermutation w.waiting (ms ++ rest) → is_lost r m ≡ true → Idles g.state (msg_of m) → Reached k (entry Carry a ms ∷ log) w
+lost_reaches k log w r m rest a ms g answer register sent waiting e why =
+    let known = not_stray k r m g.matches.settings g.proper in
+    let an : a ≡ Lost m.client = answer ∙ case_lost r m _ _ _ _ known e in
+    let re : w.register ≡ r = register ∙ case_lost r m _ _ _ _ known e in
+    let se : ms ≡ [] = sent ∙ ap option_to_list (case_lost {A = Option Message} r m _ _ _ _ known e) in
+    subst (λ q. Reached k (entry Carry q ms ∷ log) w) (sym an)
+    (nothing_reaches k log w r m rest (Lost m.client) ms g (record { not_accepted = refl; not_ended = refl; not_due = refl }) why
+    (subst (λ q. RegisterMatches k q g.state) (sym re) g.matches) (subst (λ q. IsPermutation w.waiting (q ++ rest)) se waiting))

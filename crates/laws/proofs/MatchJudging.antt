@@ -54,7 +54,7 @@ all_best P lt x [] a h = a
 all_best P lt x (y ∷ ys) a h = all_best P lt (cond (lt y x) y x) ys (cond_both (lt y x) y x P (λ e. h.0) (λ e. a)) h.1
 
 all_lowest : (P : Reading → Type 0) (xs : List Reading) → 0 < length xs → AllByRecursion P xs → P (lowest_of xs)
-all_lowest P [] l h = absurd (let z : ⊥ = omega arith in z)
+all_lowest P [] l h = absurd (omega arith)
 all_lowest P (x ∷ xs) l h = all_best P (λ y z. ltb y.replica z.replica) x xs h.0 h.1
 
 -- a reading that passes is kept
@@ -112,7 +112,7 @@ module _ (k : Checked) (xs : List Reading) (ss : List Slip) (r : ReadingsAre xs 
       bytes = all_slips xs ss r (λ s. s.card.marks < 256) r.bytes
 
       go : (ys : List Slip) → AllByRecursion (Has ss) ys → AllByRecursion (λ s. (s.card.version ≡ highest ss) × Within common s.card.marks) ys → 0 < length ys → common < 256
-      go [] f e n = absurd (let z : ⊥ = omega arith in z)
+      go [] f e n = absurd (omega arith)
       go (y ∷ ys) f e n =
           let b : y.card.marks < 256 = all-has (λ s. s.card.marks < 256) ss y bytes f.0 in
           let w : bit_and common y.card.marks ≡ common = e.0.1 in
@@ -197,7 +197,7 @@ module _ (k : Checked) (xs : List Reading) (ss : List Slip) (r : ReadingsAre xs 
       lengths = ap length r.same ∙ simp (length-reverse, length-map)
 
       some_top : (ts : List Slip) → 0 < length ts → Top ts
-      some_top [] n = absurd (let z : ⊥ = omega arith in z)
+      some_top [] n = absurd (omega arith)
       some_top (s ∷ ts) n = top_of s ts
 
 pub all_judged : AllJudged

@@ -1,5 +1,5 @@
 -- The opened register matches the opened model, and settings that passed the check fit the laws. It ends in `opening_matches`.
-use Rattle.std.proofs.Common.{◌≡◌, ℕ, zero, suc, ◌+◌, ◌*◌, ◌%◌, ◌^◌, ◌<◌, ◌≤◌, false, eqb, [], ℤ, sym, refl, ap, subst, one-mul, arith}
+use Rattle.std.proofs.Common.{◌≡◌, ℕ, ◌+◌, ◌*◌, ◌%◌, ◌^◌, ◌<◌, ◌≤◌, false, eqb, [], ℤ, sym, refl, ap, subst, one-mul, arith}
 use lib.Bits.{bit_or, or_shifted_r}
 use lib.Count.{ones, ones_cat, ones-ones}
 use Rattle.std.proofs.lemmas.List.{get_or-replicate, length-replicate}
@@ -12,6 +12,7 @@ use Rattle.register.specs.Past.{world}
 use Rattle.laws.proofs.Cards.{Fit}
 use Rattle.laws.proofs.Model as model
 use Rattle.laws.proofs.Matching.{params_of, RowMatches, ClientMatches, Matches}
+use Rattle.laws.proofs.Progress.{none_out}
 
 -- ---- the settings
 
@@ -46,10 +47,6 @@ params_of_fits k =
     }
 
 -- ---- the opened register
-
-none_out : (n : ℕ) → model.out_count (λ i. false) n ≡ 0
-none_out zero = refl
-none_out (suc n) = omega (arith, none_out n)
 
 opened_row_lem : (z : ℤ) → RowMatches (opened_row z) (record { version = 0; value = z; previous = z; marks = 0; note = 0 }) (λ c. 0)
 opened_row_lem z =

@@ -38,8 +38,8 @@ kind_number n kd a b e =
 -- what the model counts, the phase counts
 pub counts_if : (k : Checked) (p : Phase) (q : model.Phase) (m : Message) (kd : model.Kind) (ss : List Slip) → 4 ≤ m.kind → m.kind ≤ 6 → PhasesMatch k p q → q ≡ model.awaiting kd ss → kind_of m.kind ≡ kd → Lacks m.replica (replicas_of ss)
     → (eqb m.kind (awaited p) ≡ true) × (uncounted p m ≡ true)
-counts_if k Idle q m kd ss a b h e n l = absurd (let z : ◌≡◌ {A = ℕ} 0 1 = cc in let w : ⊥ = omega arith in w)
-counts_if k Due q m kd ss a b h e n l = absurd (let z : ◌≡◌ {A = ℕ} 0 1 = cc in let w : ⊥ = omega arith in w)
+counts_if k Idle q m kd ss a b h e n l = grind arith
+counts_if k Due q m kd ss a b h e n l = grind arith
 counts_if k (Writing rs) q m kd ss a b h e n l =
     let same : model.awaiting model.writes h.0 ≡ model.awaiting kd ss = sym h.1 ∙ e in
     let ks : model.writes ≡ kd = cc in
@@ -83,8 +83,8 @@ pub record Progress (k : Checked) (p : Phase) (q : model.Phase) (m : Message) : 
   pub next : is_complete k (joined p m) ≡ false → PhasesMatch k (joined p m) (model.awaiting kind (model.slip (msg_of m) ∷ slips)) × model.Short (params_of k) kind (model.slip (msg_of m) ∷ slips)
 
 pub phase_counts : (k : Checked) (p : Phase) (q : model.Phase) (m : Message) → m.marks < 256 → PhasesMatch k p q → eqb m.kind (awaited p) ≡ true → uncounted p m ≡ true → Progress k p q m
-phase_counts k Idle q m byte h e u = absurd (let z : ◌≡◌ {A = ℕ} 0 1 = cc in let w : ⊥ = omega arith in w)
-phase_counts k Due q m byte h e u = absurd (let z : ◌≡◌ {A = ℕ} 0 1 = cc in let w : ⊥ = omega arith in w)
+phase_counts k Idle q m byte h e u = grind arith
+phase_counts k Due q m byte h e u = grind arith
 phase_counts k (Writing rs) q m byte h e u =
     let c : ReceiptsCounted (k.replicas - k.tolerated) rs h.0 m = receipts_counted (k.replicas - k.tolerated) rs h.0 m h.2 u in
     let total : (with_receipt rs (receipt_of m)).got ≡ suc (length h.0) = c.total in

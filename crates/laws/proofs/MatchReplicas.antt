@@ -9,7 +9,7 @@ use Rattle.std.proofs.lemmas.Bool.{cases_Bool, ltb-true, ltb-false, leb-true, le
 use Rattle.wire.specs.declared.message.Message.{Message}
 use Rattle.orders.specs.declared.order.Order.TheVariants.{Carry}
 use Rattle.orders.specs.declared.answer.Answer.{Answer}
-use Rattle.orders.specs.declared.answer.Answer.TheVariants.{Replied, Lost, Ignored}
+use Rattle.orders.specs.declared.answer.Answer.TheVariants.{Replied, Ignored}
 use Rattle.replica.specs.declared.row.Row.{Row}
 use Rattle.replica.specs.Replica.{record_of, misdirected, is_stale, is_news, fresh, reply_from, delivered, delivered_reply}
 use Rattle.register.specs.declared.settings.Checked.{Checked}
@@ -23,7 +23,7 @@ use Rattle.laws.proofs.Model.{entry, put, Msg, Same, taken, noting, after}
 use Rattle.laws.proofs.Matching.{msg_of, kind_of, row_card, message_card, Proper, RowMatches, RegisterMatches}
 use Rattle.laws.proofs.MatchTables.{each_set, each_set_two, same_self}
 use Rattle.laws.proofs.MatchReached.{Reached, reached_with}
-use Rattle.laws.proofs.MatchCarried.{Taken, not_stray, case_lost, case_replica, nothing_reaches}
+use Rattle.laws.proofs.MatchCarried.{Taken, not_stray, case_replica, nothing_reaches, lost_reaches}
 
 -- ---- one row and a fresh message
 
@@ -196,13 +196,7 @@ module _ (k : Checked) (log : List Entry) (w : World) (r : Register) (m : Messag
   no_reply = le-ltb 3 m.kind to
 
   lost_there : is_lost r m ≡ true → Reached k (entry Carry a ms ∷ log) w
-  lost_there e =
-      let an : a ≡ Lost m.client = answer ∙ case_lost r m _ _ _ _ known e in
-      let re : w.register ≡ r = register ∙ case_lost r m _ _ _ _ known e in
-      let se : ms ≡ [] = sent ∙ ap option_to_list (case_lost {A = Option Message} r m _ _ _ _ known e) in
-      subst (λ x. Reached k (entry Carry x ms ∷ log) w) (sym an)
-      (nothing_reaches k log w r m rest (Lost m.client) ms g (record { not_accepted = refl; not_ended = refl; not_due = refl })
-      (inl (no_reply, inl (sym out_is ∙ e))) (subst (λ x. RegisterMatches k x b) (sym re) g.matches) (subst (λ x. IsPermutation w.waiting (x ++ rest)) se waiting))
+  lost_there e = lost_reaches k log w r m rest a ms g answer register sent waiting e (inl (no_reply, inl (sym out_is ∙ e)))
 
   module _ (there : is_lost r m ≡ false) where
     stale_there : is_stale (row_at r m.replica) m ≡ true → Reached k (entry Carry a ms ∷ log) w

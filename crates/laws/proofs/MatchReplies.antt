@@ -7,7 +7,7 @@ use Rattle.std.proofs.lemmas.Bool.{cases_Bool, eqb-true, eq-eqb, leb-true, lt-le
 use Rattle.wire.specs.declared.message.Message.{Message}
 use Rattle.orders.specs.declared.order.Order.TheVariants.{Carry}
 use Rattle.orders.specs.declared.answer.Answer.{Answer}
-use Rattle.orders.specs.declared.answer.Answer.TheVariants.{Lost, Ignored, Counted, BecameDue}
+use Rattle.orders.specs.declared.answer.Answer.TheVariants.{Ignored, Counted, BecameDue}
 use Rattle.quorum.specs.declared.slip.Reading.{Reading}
 use Rattle.quorum.specs.declared.decide.Verdict.{Verdict}
 use Rattle.quorum.specs.declared.decide.Verdict.TheVariants.{Highest, Due as Delayed, Previous}
@@ -28,7 +28,7 @@ use Rattle.laws.proofs.Matching.{params_of, msg_of, kind_of, PhasesMatch, Rounds
 use Rattle.laws.proofs.MatchTables.{same_self}
 use Rattle.laws.proofs.MatchReached.{Reached, reached_with}
 use Rattle.laws.proofs.MatchCalls.{register_client, three_fit}
-use Rattle.laws.proofs.MatchCarried.{Taken, not_stray, case_lost, case_client, nothing_reaches}
+use Rattle.laws.proofs.MatchCarried.{Taken, not_stray, case_client, nothing_reaches, lost_reaches}
 use Rattle.laws.proofs.MatchCounting.{receipts_counted, readings_counted, ReceiptsCounted, ReadingsCounted}
 use Rattle.laws.proofs.MatchPhases.{Progress, phase_counts, counts_if}
 use Rattle.laws.proofs.MatchDeciding.{Judged, VerdictFits, judgement, AllJudged}
@@ -127,8 +127,8 @@ module _ (k : Checked) (log : List Entry) (w : World) (r : Register) (m : Messag
     -- ---- any round that is complete
     ends_round : AllJudged → (p : Phase) (a : Answer) → PhasesMatch k p y.phase → RoundsLeft p x.round → eqb m.kind (awaited p) ≡ true → uncounted p m ≡ true → is_complete k (joined p m) ≡ true
         → a ≡ completion_in k m.client (in_phase x (joined p m)) (joined p m) → w.register ≡ with_client r m.client (completed_in k (in_phase x (joined p m)) (joined p m)) → Reached k (entry Carry a ms ∷ log) w
-    ends_round judge Idle a h l e u c an re = absurd (let z : ◌≡◌ {A = ℕ} 0 1 = cc in let w : ⊥ = omega arith in w)
-    ends_round judge Due a h l e u c an re = absurd (let z : ◌≡◌ {A = ℕ} 0 1 = cc in let w : ⊥ = omega arith in w)
+    ends_round judge Idle a h l e u c an re = grind arith
+    ends_round judge Due a h l e u c an re = grind arith
     ends_round judge (Writing rs) a h l e u c an re =
         let t : ReceiptsCounted (k.replicas - k.tolerated) rs h.0 m = receipts_counted (k.replicas - k.tolerated) rs h.0 m h.2 u in
         let total : (with_receipt rs (receipt_of m)).got ≡ suc (length h.0) = t.total in
@@ -178,13 +178,7 @@ module _ (judge : AllJudged) (k : Checked) (log : List Entry) (w : World) (r : R
   out_is = cond-false (to_replica m) _ _ reply ∙ g.matches.clients.out m.client place
 
   lost_there : is_lost r m ≡ true → Reached k (entry Carry a ms ∷ log) w
-  lost_there e =
-      let an : a ≡ Lost m.client = answer ∙ case_lost r m _ _ _ _ known e in
-      let re : w.register ≡ r = register ∙ case_lost r m _ _ _ _ known e in
-      let se : ms ≡ [] = sent ∙ ap option_to_list (case_lost {A = Option Message} r m _ _ _ _ known e) in
-      subst (λ q. Reached k (entry Carry q ms ∷ log) w) (sym an)
-      (nothing_reaches k log w r m rest (Lost m.client) ms g (record { not_accepted = refl; not_ended = refl; not_due = refl })
-      (inr (lt-ltb 3 m.kind from, inl (sym out_is ∙ e))) (subst (λ q. RegisterMatches k q s) (sym re) g.matches) (subst (λ q. IsPermutation w.waiting (q ++ rest)) se waiting))
+  lost_there e = lost_reaches k log w r m rest a ms g answer register sent waiting e (inr (lt-ltb 3 m.kind from, inl (sym out_is ∙ e)))
 
   module _ (there : is_lost r m ≡ false) where
     left : IsPermutation w.waiting rest

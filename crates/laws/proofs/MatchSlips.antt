@@ -1,54 +1,16 @@
 -- Sets of slips and counts of readings: a set of m exists exactly if at least m readings pass. It ends in `count_from_several`.
-use Rattle.std.proofs.Common.{◌≡◌, ℕ, suc, ◌≤◌, Bool, true, cond, eqb, ◌⊎◌, List, [], ◌∷◌, map, reverse, length, count_by, filter, sym, refl, ap, ◌∙◌, subst, inl, inr, arith}
+use Rattle.std.proofs.Common.{◌≡◌, ℕ, ◌≤◌, Bool, true, List, [], ◌∷◌, map, reverse, count_by, sym, subst, arith}
 use Rattle.std.specs.List.{ContainsAt as Has, AllByRecursion}
-use Rattle.std.proofs.lemmas.List.{reverse-reverse, length-map}
-use Rattle.std.proofs.ByRecursion.{All-map, all-has, all_has_itself, all_kept_by, All-weaker, kept_by_passes}
+use Rattle.std.proofs.lemmas.List.{reverse-reverse}
+use Rattle.std.proofs.ByRecursion.{All-map, all_has_itself}
 use Rattle.std.proofs.lemmas.List.Sums.{length-filter}
-use Rattle.std.proofs.lemmas.Bool.{cond_both, both_ways, eqb-true, eqb-false}
 use Rattle.quorum.specs.declared.slip.Reading.{Reading}
 use Rattle.quorum.specs.Tallies.{Once}
-use Rattle.quorum.proofs.Sets.{chosen_map, chosen_once}
-use Rattle.laws.proofs.Sets.{Lacks, Distinct}
-use Rattle.laws.proofs.Cards.{Card, Slip, replicas_of, Several}
+use Rattle.laws.proofs.Sets.{Distinct}
+use Rattle.laws.proofs.Cards.{Card, Slip, Several}
+use Rattle.laws.proofs.Slips.{tallied_several, several_tallied}
 use Rattle.laws.proofs.Matching.{reading_slip, ReadingsAre}
 use Rattle.laws.proofs.MatchCounting.{all_reverse, lacks_from_not, reading_from}
-
--- ---- distinct numbers, all in another list, are no more than it has
-
-abbrev Among : ℕ → List ℕ → Type 0
-Among x [] = ⊥
-Among x (y ∷ ys) = (x ≡ y) ⊎ Among x ys
-
-abbrev without : ℕ → List ℕ → List ℕ
-without x [] = []
-without x (y ∷ ys) = cond (eqb x y) ys (y ∷ without x ys)
-
-without_less : (x : ℕ) (ys : List ℕ) → Among x ys → suc (length (without x ys)) ≤ length ys
-without_less x [] h = elim h [ ]
-without_less x (y ∷ ys) (inl e) =
-    cond_both (eqb x y) ys (y ∷ without x ys) (λ zs. suc (length zs) ≤ suc (length ys)) (λ q. omega arith) (λ q. absurd (eqb-false x y q e))
-without_less x (y ∷ ys) (inr h) =
-    let ih : suc (length (without x ys)) ≤ length ys = without_less x ys h in
-    cond_both (eqb x y) ys (y ∷ without x ys) (λ zs. suc (length zs) ≤ suc (length ys)) (λ q. omega arith) (λ q. omega arith)
-
-without_keeps : (x z : ℕ) (ys : List ℕ) → (z ≡ x → ⊥) → Among z ys → Among z (without x ys)
-without_keeps x z [] n h = elim h [ ]
-without_keeps x z (y ∷ ys) n (inl e) =
-    cond_both (eqb x y) ys (y ∷ without x ys) (λ zs. Among z zs) (λ q. absurd (n (e ∙ sym (eqb-true x y q)))) (λ q. inl e)
-without_keeps x z (y ∷ ys) n (inr h) =
-    let ih : Among z (without x ys) = without_keeps x z ys n h in
-    cond_both (eqb x y) ys (y ∷ without x ys) (λ zs. Among z zs) (λ q. h) (λ q. inr ih)
-
-all_kept_without : (x : ℕ) (ys zs : List ℕ) → Lacks x zs → AllByRecursion (λ z. Among z ys) zs → AllByRecursion (λ z. Among z (without x ys)) zs
-all_kept_without x ys [] a b = tt
-all_kept_without x ys (z ∷ zs) a b = (without_keeps x z ys (λ e. a.0 (sym e)) b.0, all_kept_without x ys zs a.1 b.1)
-
-no_longer : (xs ys : List ℕ) → Distinct xs → AllByRecursion (λ x. Among x ys) xs → length xs ≤ length ys
-no_longer [] ys d h = omega arith
-no_longer (x ∷ xs) ys d h =
-    let ih : length xs ≤ length (without x ys) = no_longer xs (without x ys) d.1 (all_kept_without x ys xs d.0 h.1) in
-    let l : suc (length (without x ys)) ≤ length ys = without_less x ys h.0 in
-    omega arith
 
 -- ---- readings and their slips
 
@@ -56,30 +18,9 @@ all_from_map : {A B : Type 0} (P : B → Type 0) (f : A → B) (xs : List A) →
 all_from_map P f [] h = tt
 all_from_map P f (x ∷ xs) h = (h.0, all_from_map P f xs h.1)
 
-replicas_map : (xs : List Reading) → replicas_of (map reading_slip xs) ≡ map reading_from xs
-replicas_map [] = refl
-replicas_map (x ∷ xs) = ap (λ ys. x.replica ∷ ys) (replicas_map xs)
-
 distinct_from_once : (xs : List Reading) → Once reading_from xs → Distinct (map reading_from xs)
 distinct_from_once [] o = tt
 distinct_from_once (x ∷ xs) o = (lacks_from_not reading_from x.replica xs o.0, distinct_from_once xs o.1)
-
-length_replicas : (ss : List Slip) → length (replicas_of ss) ≡ length ss
-length_replicas [] = refl
-length_replicas (s ∷ ss) = ap suc (length_replicas ss)
-
-all_replicas : (P : ℕ → Type 0) (ss : List Slip) → AllByRecursion (λ s. P s.replica) ss → AllByRecursion P (replicas_of ss)
-all_replicas P [] h = tt
-all_replicas P (s ∷ ss) h = (h.0, all_replicas P ss h.1)
-
--- every reading passes into the count of those that pass
-passes_in : (p : Reading → Bool) (xs : List Reading) → AllByRecursion (λ x. p x ≡ true → Among x.replica (map reading_from (filter p xs))) xs
-passes_in p [] = tt
-passes_in p (x ∷ xs) = (
-  cond_both (p x) (x ∷ filter p xs) (filter p xs) (λ (ys : List Reading). p x ≡ true → Among x.replica (map reading_from ys)) (λ e q. inl refl) (λ e q. absurd (both_ways (p x) e q)),
-  All-weaker (λ (z : Reading). p z ≡ true → Among z.replica (map reading_from (filter p xs))) (λ (z : Reading). p z ≡ true → Among z.replica (map reading_from (filter p (x ∷ xs))))
-      (λ z h q. cond_both (p x) (x ∷ filter p xs) (filter p xs) (λ (ys : List Reading). Among z.replica (map reading_from ys)) (λ e. inr (h q)) (λ e. h q)) xs (passes_in p xs),
-)
 
 module _ (xs : List Reading) (ss : List Slip) (h : ReadingsAre xs ss) where
   -- what holds of every slip and what holds of every reading
@@ -93,25 +34,7 @@ module _ (xs : List Reading) (ss : List Slip) (h : ReadingsAre xs ss) where
       subst (λ ts. AllByRecursion (λ x. Has ts (reading_slip x)) xs) (sym h.same) (all_from_map (Has (reverse (map reading_slip xs))) reading_slip xs b)
 
   pub several_from_count : (p : Reading → Bool) (P : Card → Type 0) (m : ℕ) → ((x : Reading) → p x ≡ true → P (reading_slip x).card) → m ≤ count_by p xs → Several ss m P
-  several_from_count p P m tells l =
-      let once : Once reading_from (filter p xs) = subst (Once reading_from) (chosen_map p xs) (chosen_once reading_from (map p xs) xs h.once) in
-      record {
-        chosen = map reading_slip (filter p xs);
-        distinct = subst Distinct (sym (replicas_map (filter p xs))) (distinct_from_once (filter p xs) once);
-        from = All-map (Has ss) reading_slip (filter p xs) (all_kept_by p (λ x. Has ss (reading_slip x)) xs slips_have);
-        enough = omega (arith, length-map (filter p xs) reading_slip, length-filter p xs);
-        each = All-map (λ s. P s.card) reading_slip (filter p xs) (All-weaker (λ x. p x ≡ true) (λ x. P (reading_slip x).card) tells (filter p xs) (kept_by_passes p xs));
-      }
+  several_from_count p P m tells l = tallied_several reading_slip p P tells ss xs m slips_have (distinct_from_once xs h.once) (omega (arith, length-filter p xs))
 
   pub count_from_several : (p : Reading → Bool) (P : Card → Type 0) (m : ℕ) → ((x : Reading) → P (reading_slip x).card → p x ≡ true) → Several ss m P → m ≤ count_by p xs
-  count_from_several p P m told v =
-      let found : AllByRecursion (λ (s : Slip). P s.card → Among s.replica (map reading_from (filter p xs))) ss =
-      all_slips (λ s. P s.card → Among s.replica (map reading_from (filter p xs)))
-      (All-weaker (λ (x : Reading). p x ≡ true → Among x.replica (map reading_from (filter p xs))) (λ (x : Reading). P (reading_slip x).card → Among x.replica (map reading_from (filter p xs))) (λ x f c. f (told x c)) xs (passes_in p xs)) in
-      let l : length (replicas_of v.chosen) ≤ length (map reading_from (filter p xs)) =
-      no_longer (replicas_of v.chosen) (map reading_from (filter p xs)) v.distinct (all_replicas (λ n. Among n (map reading_from (filter p xs))) v.chosen (go found v.chosen v.from v.each)) in
-      omega (arith, v.enough, length_replicas v.chosen, length-map (filter p xs) reading_from, length-filter p xs)
-    where
-      go : AllByRecursion (λ (s : Slip). P s.card → Among s.replica (map reading_from (filter p xs))) ss → (ys : List Slip) → AllByRecursion (Has ss) ys → AllByRecursion (λ s. P s.card) ys → AllByRecursion (λ s. Among s.replica (map reading_from (filter p xs))) ys
-      go found [] f e = tt
-      go found (y ∷ ys) f e = (all-has (λ s. P s.card → Among s.replica (map reading_from (filter p xs))) ss y found f.0 e.0, go found ys f.1 e.1)
+  count_from_several p P m told v = omega (arith, several_tallied reading_slip p P told ss xs m all_slips v, length-filter p xs)

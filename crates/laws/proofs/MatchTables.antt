@@ -7,7 +7,8 @@ use Rattle.std.proofs.lemmas.Bool.{cases_Bool, eqb-true, eqb-false}
 use Rattle.std.proofs.lemmas.List.Sorted.{IsPermutation-sym}
 use Rattle.std.proofs.ByRecursion.{all_shuffled}
 use Rattle.wire.specs.declared.message.Message.{Message}
-use Rattle.laws.proofs.Model.{put, Msg, InW, Same}
+use Rattle.laws.proofs.Members.{Among}
+use Rattle.laws.proofs.Model.{put, Msg, Same}
 use Rattle.laws.proofs.Matching.{msg_of}
 
 -- ---- a table with one entry changed, as a list and as a function
@@ -46,32 +47,28 @@ each_set_beside P n xs i a d f l p h j k =
 
 -- ---- messages that wait
 
-pub in_left : (x : Msg) (v w : List Msg) → InW x v → InW x (v ++ w)
+pub in_left : (x : Msg) (v w : List Msg) → Among x v → Among x (v ++ w)
 in_left x [] w h = elim h [ ]
 in_left x (y ∷ v) w (inl e) = inl e
 in_left x (y ∷ v) w (inr h) = inr (in_left x v w h)
 
-pub in_right : (x : Msg) (v w : List Msg) → InW x w → InW x (v ++ w)
-in_right x [] w h = h
-in_right x (y ∷ v) w h = inr (in_right x v w h)
-
-pub in_cases : (x : Msg) (v w : List Msg) → InW x (v ++ w) → InW x v ⊎ InW x w
+pub in_cases : (x : Msg) (v w : List Msg) → Among x (v ++ w) → Among x v ⊎ Among x w
 in_cases x [] w h = inr h
 in_cases x (y ∷ v) w (inl e) = inl (inl e)
 in_cases x (y ∷ v) w (inr h) =
     elim (in_cases x v w h) [ inl a ↦ inl (inr a) | inr a ↦ inr a ]
 
-all_in_more : (x : Msg) (w : List Msg) (ms : List Message) → AllByRecursion (λ m. InW (msg_of m) w) ms → AllByRecursion (λ m. InW (msg_of m) (x ∷ w)) ms
+all_in_more : (x : Msg) (w : List Msg) (ms : List Message) → AllByRecursion (λ m. Among (msg_of m) w) ms → AllByRecursion (λ m. Among (msg_of m) (x ∷ w)) ms
 all_in_more x w [] h = tt
 all_in_more x w (m ∷ ms) h = (inr h.0, all_in_more x w ms h.1)
 
-pub all_in_itself : (ms : List Message) → AllByRecursion (λ m. InW (msg_of m) (map msg_of ms)) ms
+pub all_in_itself : (ms : List Message) → AllByRecursion (λ m. Among (msg_of m) (map msg_of ms)) ms
 all_in_itself [] = tt
 all_in_itself (m ∷ ms) = (inl refl, all_in_more (msg_of m) (map msg_of ms) ms (all_in_itself ms))
 
-pub in_from_all : (ms : List Message) (w : List Msg) → AllByRecursion (λ m. InW (msg_of m) w) ms → (x : Msg) → InW x (map msg_of ms) → InW x w
+pub in_from_all : (ms : List Message) (w : List Msg) → AllByRecursion (λ m. Among (msg_of m) w) ms → (x : Msg) → Among x (map msg_of ms) → Among x w
 in_from_all [] w h x i = elim i [ ]
-in_from_all (m ∷ ms) w h x (inl e) = subst (λ y. InW y w) (sym e) h.0
+in_from_all (m ∷ ms) w h x (inl e) = subst (λ y. Among y w) (sym e) h.0
 in_from_all (m ∷ ms) w h x (inr i) = in_from_all ms w h.1 x i
 
 pub same_self : (w : List Msg) → Same w w
@@ -83,6 +80,6 @@ same_then u v w s t x = (λ h. (t x).0 ((s x).0 h), λ h. (s x).1 ((t x).1 h))
 -- lists of messages that are the same up to order are the same to the model
 pub shuffled_same : (ms ns : List Message) → IsPermutation ms ns → Same (map msg_of ms) (map msg_of ns)
 shuffled_same ms ns s x = (
-  in_from_all ms (map msg_of ns) (all_shuffled (λ m. InW (msg_of m) (map msg_of ns)) ns ms (IsPermutation-sym ms ns s) (all_in_itself ns)) x,
-  in_from_all ns (map msg_of ms) (all_shuffled (λ m. InW (msg_of m) (map msg_of ms)) ms ns s (all_in_itself ms)) x,
+  in_from_all ms (map msg_of ns) (all_shuffled (λ m. Among (msg_of m) (map msg_of ns)) ns ms (IsPermutation-sym ms ns s) (all_in_itself ns)) x,
+  in_from_all ns (map msg_of ms) (all_shuffled (λ m. Among (msg_of m) (map msg_of ms)) ms ns s (all_in_itself ms)) x,
 )

@@ -9,6 +9,7 @@ use Rattle.orders.specs.declared.answer.Answer.TheVariants.{Accepted, Replied, C
 use Rattle.orders.specs.Answers.{listed_as}
 use Rattle.register.specs.Past.{Entry}
 use Rattle.std.specs.List.{ContainsAt as Has}
+use Rattle.laws.proofs.Members.{Among}
 use Rattle.laws.proofs.Sets.{Lacks}
 use Rattle.laws.proofs.Cards.{Params, Card, Slip, replicas_of, highest, Decision}
 
@@ -78,14 +79,9 @@ pub data Takes (l : Msg) : List Msg → List Msg → Type 0 where
   here : {w : List Msg} → Takes l (l ∷ w) w
   there : {x : Msg} {w v : List Msg} → Takes l w v → Takes l (x ∷ w) (x ∷ v)
 
--- a message waits
-abbrev pub InW : Msg → List Msg → Type 0
-InW l [] = ⊥
-InW l (x ∷ xs) = (l ≡ x) ⊎ InW l xs
-
 -- the same messages wait, in any order
 abbrev pub Same : List Msg → List Msg → Type 0
-Same v w = (x : Msg) → (InW x v → InW x w) × (InW x w → InW x v)
+Same v w = (x : Msg) → (Among x v → Among x w) × (Among x w → Among x v)
 
 -- ---- answers
 

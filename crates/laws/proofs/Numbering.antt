@@ -73,9 +73,9 @@ module _ (g : Params) (fit : Fit g) (f : ℤ) where
       let u = invariant g fit f log₀ b₀ p in
       record { ended = ended_more (entry (Write v) (Accepted 0) ms) log₀ (done log₀) (numbers log₀ b₀ p).ended; running = λ q. inl (refl, (refl, refl), ap suc ((u.safe.clients 0).writer refl).1) }
   numbers log b (asked {log = log₀} {b = b₀} c ms lt present rest p) =
-      numbers_set _ b₀.clients (suc c) _ (λ e. absurd (let r : ⊥ = omega arith in r))
-      (numbers_quiet _ log₀ b₀.clients (numbers log₀ b₀ p) refl (put_case (λ j n. j ≡ 0 → n ≡ begun log₀ 0) (begun log₀) (suc c) (length log₀) 0 (λ e. absurd (let r : ⊥ = omega arith in r)) (λ e z. refl) refl))
-  numbers log b (told {log = log₀} {b = b₀} c ms lt present rest p) = numbers_set _ b₀.clients (suc c) _ (λ e. absurd (let r : ⊥ = omega arith in r)) (numbers_quiet _ log₀ b₀.clients (numbers log₀ b₀ p) refl refl)
+      numbers_set _ b₀.clients (suc c) _ (λ e. absurd (omega arith))
+      (numbers_quiet _ log₀ b₀.clients (numbers log₀ b₀ p) refl (put_case (λ j n. j ≡ 0 → n ≡ begun log₀ 0) (begun log₀) (suc c) (length log₀) 0 (λ e. absurd (omega arith)) (λ e z. refl) refl))
+  numbers log b (told {log = log₀} {b = b₀} c ms lt present rest p) = numbers_set _ b₀.clients (suc c) _ (λ e. absurd (omega arith)) (numbers_quiet _ log₀ b₀.clients (numbers log₀ b₀ p) refl refl)
   numbers log b (delivered {log = log₀} {b = b₀} m w ms t nr inside lt p) = numbers_quiet _ log₀ b₀.clients (numbers log₀ b₀ p) refl refl
   numbers log b (lost {log = log₀} {b = b₀} m w a ms q t p why) =
       numbers_quiet (entry Carry a ms) log₀ b₀.clients (numbers log₀ b₀ p) (simp q.not_ended) (simp q.not_accepted)

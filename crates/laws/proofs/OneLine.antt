@@ -1,7 +1,7 @@
 -- All calls of a past stand in one line: ends in `linearizable`.
 use Rattle.std.proofs.Common.{◌≡◌, ℕ, suc, ◌<◌, ◌≤◌, false, ◌⊎◌, List, [], ◌∷◌, length, ℤ, sym, refl, ap, ◌∙◌, subst, inl, inr, arith}
-use Rattle.std.proofs.ByRecursion.{all-has, all_has_itself, All-weaker}
-use Rattle.std.proofs.lemmas.Bool.{cases_eq, cases_lt, cond-false, ne_eqb}
+use Rattle.std.proofs.ByRecursion.{All-map, all-has, all_has_itself, All-weaker}
+use Rattle.std.proofs.lemmas.Bool.{cases_eq, cases_lt, cond-false, ne_eqb, false≢true}
 use Rattle.std.specs.List.{ContainsAt as Has, AllByRecursion}
 use Rattle.register.specs.Past.{Entry}
 use Rattle.laws.proofs.Sets.{Distinct}
@@ -9,12 +9,11 @@ use Rattle.laws.proofs.Cards.{Params, Fit}
 use Rattle.laws.proofs.Model.{writes, Phase, idle, due, awaiting, State, Trace}
 use Rattle.laws.proofs.History.{Done, values, value_at, begun, spent, done, Ordered}
 use Rattle.laws.proofs.Line.{Op, op, Before, Respects, ends_of, Wrote, Showed, Pending, Line, Linearizable}
-use Rattle.laws.proofs.Members.{has_here, has_there}
-use Rattle.laws.proofs.Apart.{true_false}
+use Rattle.laws.proofs.Members.{has_here, has_there, Among}
 use Rattle.laws.proofs.Safety.{PhaseFine}
 use Rattle.laws.proofs.Orderly.{OpenFine, EndedFine, OneWriteEach, NewestFirst, wrote_more}
 use Rattle.laws.proofs.Invariant.{Invariant, invariant}
-use Rattle.laws.proofs.Insertion.{key, key_write, key_most, key_read, insert, Sorted, In, all_insert, in_insert, in_insert_more, sorted_insert, respects_insert, once_insert, all_ends, in_has, HasWrite, OneWrite, one_write_insert, sorted_shows}
+use Rattle.laws.proofs.Insertion.{key, key_write, key_most, key_read, insert, Sorted, all_insert, in_insert, in_insert_more, sorted_insert, respects_insert, once_insert, in_has, HasWrite, OneWrite, one_write_insert, sorted_shows}
 
 -- the ended calls, in a line
 abbrev line_of : List Done → List Op
@@ -40,7 +39,7 @@ record LineFine (ds : List Done) : Type 0 where
   respects : Respects (line_of ds)
   once : Distinct (ends_of (line_of ds))
   one_write : OneWrite (line_of ds)
-  members : AllByRecursion (λ d. In (op d) (line_of ds)) ds
+  members : AllByRecursion (λ d. Among (op d) (line_of ds)) ds
 
 line_fine : (ds : List Done) → AllByRecursion (λ d. d.begin ≤ d.end) ds → NewestFirst ds → OneWriteEach ds → AllByRecursion (λ y. AllByRecursion (λ x. x.end < y.begin → Ordered x y) ds) ds → LineFine ds
 line_fine [] c h s p = record { sorted = tt; respects = tt; once = tt; one_write = tt; members = tt }
@@ -51,7 +50,7 @@ line_fine (d ∷ ds) c h s p =
       respects = respects_insert (op d) (line_of ds) r.sorted r.respects
           (all_line (λ x. Before (op d) x → ⊥) ds (newest ds c.1 h.0))
           (all_line (λ y. key (op d) < key y → Before y (op d) → ⊥) ds (All-weaker _ _ (λ y q. not_before d y q) ds p.0.1));
-      once = once_insert (op d) (line_of ds) r.once (all_ends (λ n. d.end ≡ n → ⊥) (line_of ds) (all_line (λ x. d.end ≡ x.end → ⊥) ds (All-weaker _ _ (λ x q e. absurd (omega arith)) ds h.0)));
+      once = once_insert (op d) (line_of ds) r.once (All-map (λ n. d.end ≡ n → ⊥) (λ x. x.end) (line_of ds) (all_line (λ x. d.end ≡ x.end → ⊥) ds (All-weaker _ _ (λ x q e. absurd (omega arith)) ds h.0)));
       one_write = one_write_insert (op d) (line_of ds) r.one_write (all_line (λ x. d.client ≡ 0 → x.client ≡ 0 → d.version ≡ x.version → ⊥) ds (All-weaker _ _ (λ x q e f v. absurd (omega (arith, q e f))) ds s.0));
       members = (in_insert (op d) (line_of ds), All-weaker _ _ (λ x q. in_insert_more (op d) (op x) (line_of ds) q) ds r.members);
     }
@@ -114,7 +113,7 @@ module _ (g : Params) (fit : Fit g) (f : ℤ) (log : List Entry) (b : State) (p 
   Backed line x = (x.client ≡ 0 → ⊥) → ((x.version ≡ 0) × (x.value ≡ f)) ⊎ HasWrite x.version x.value line
 
   -- The write of a read that shows an ended write is in the line.
-  from_done : (line : List Op) → ((d : Done) → Has (done log) d → In (op d) line) → (d : Done) → Has (done log) d → Wrote (done log) d.version → HasWrite d.version d.value line
+  from_done : (line : List Op) → ((d : Done) → Has (done log) d → Among (op d) line) → (d : Done) → Has (done log) d → Wrote (done log) d.version → HasWrite d.version d.value line
   from_done line has d h w =
       let mine = ended_fine d h in
       let its = ended_fine w.call w.has in
@@ -127,7 +126,7 @@ module _ (g : Params) (fit : Fit g) (f : ℤ) (log : List Entry) (b : State) (p 
       }
 
   -- Each ended read is backed, if the line has the ended calls and the last write when that is shown and has not ended.
-  back : (line : List Op) → ((d : Done) → Has (done log) d → In (op d) line)
+  back : (line : List Op) → ((d : Done) → Has (done log) d → Among (op d) line)
       → ((d : Done) → Has (done log) d → (d.client ≡ 0 → ⊥) → d.version ≡ length (values log) → 1 ≤ d.version → (Wrote (done log) d.version → ⊥) → HasWrite d.version d.value line)
       → (d : Done) → Has (done log) d → Backed line (op d)
   unfolding Backed
@@ -144,8 +143,8 @@ module _ (g : Params) (fit : Fit g) (f : ℤ) (log : List Entry) (b : State) (p 
   all_ops : (P : Op → Type 0) → ((d : Done) → Has (done log) d → P (op d)) → AllByRecursion P (line_of (done log))
   all_ops P h = all_line P (done log) (All-weaker (Has (done log)) (λ d. P (op d)) h (done log) (all_has_itself (done log)))
 
-  has_ended : (d : Done) → Has (done log) d → In (op d) (line_of (done log))
-  has_ended d h = all-has (λ d. In (op d) (line_of (done log))) (done log) d whole.members h
+  has_ended : (d : Done) → Has (done log) d → Among (op d) (line_of (done log))
+  has_ended d h = all-has (λ d. Among (op d) (line_of (done log))) (done log) d whole.members h
 
   write_not_initial : (d : Done) → Has (done log) d → d.client ≡ 0 → 0 < d.version
   write_not_initial d h e = (ended_fine d h).first e
@@ -192,13 +191,13 @@ module _ (g : Params) (fit : Fit g) (f : ℤ) (log : List Entry) (b : State) (p 
         record {
           line = insert the_pending (line_of (done log));
           once = once_insert the_pending (line_of (done log)) whole.once
-              (all_ends (λ n. length log ≡ n → ⊥) (line_of (done log)) (all_ops (λ x. length log ≡ x.end → ⊥) (λ d h e. absurd (omega (arith, (ended_fine d h).clock.0)))));
+              (All-map (λ n. length log ≡ n → ⊥) (λ x. x.end) (line_of (done log)) (all_ops (λ x. length log ≡ x.end → ⊥) (λ d h e. absurd (omega (arith, (ended_fine d h).clock.0)))));
           only = all_insert _ the_pending (line_of (done log)) (inr is_pending) (all_ops _ (λ d h. inl (d, h, refl)));
           ended = All-weaker _ _ (λ d q. in_has (op d) (insert the_pending (line_of (done log))) (in_insert_more the_pending (op d) (line_of (done log)) q)) (done log) whole.members;
           pending = λ a c e. (the_pending, in_has the_pending (insert the_pending (line_of (done log))) (in_insert the_pending (line_of (done log))), is_pending);
           given = all_insert _ the_pending (line_of (done log)) refl (all_ops _ (λ d h. (ended_fine d h).value));
           respects = respects_insert the_pending (line_of (done log)) whole.sorted whole.respects
-              (all_ops _ (λ d h q. true_false false q.0 refl))
+              (all_ops _ (λ d h q. absurd (false≢true q.0)))
               (all_ops _ (λ d h k q. absurd (let lt = writing_now d h q.1 in let most = key_most (op d) in let r : ⊥ = omega arith in r)));
           shows = sorted_shows 0 f (insert the_pending (line_of (done log))) (sorted_insert the_pending (line_of (done log)) whole.sorted)
               (one_write_insert the_pending (line_of (done log)) whole.one_write (all_ops _ (λ d h e k v. w (record { call = d; has = h; writer = k; version = sym v }))))

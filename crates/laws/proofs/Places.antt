@@ -1,5 +1,5 @@
 -- Places: the entries oldest first and the log newest first have the same entry at each place, so operations begin and end at the same places. It ends in `begins_log`, `next_log`, `next_told`, `write_at` and `read_at`.
-use Rattle.std.proofs.Common.{◌≡◌, ℕ, zero, suc, ◌<◌, ◌⊎◌, List, [], ◌∷◌, ◌++◌, reverse, length, ℤ, sym, refl, ap, ◌∙◌, subst, inl, inr, arith}
+use Rattle.std.proofs.Common.{◌≡◌, ℕ, zero, suc, ◌⊎◌, List, [], ◌∷◌, ◌++◌, reverse, length, ℤ, sym, refl, ap, ◌∙◌, subst, inl, inr, arith}
 use mathlib.Core.List.{reverse-cons, reverse-reverse}
 use Rattle.std.specs.List.{AllByRecursion}
 use Rattle.std.proofs.lemmas.List.{length_push}
@@ -10,6 +10,7 @@ use Rattle.orders.specs.Answers.{listed_as}
 use Rattle.register.specs.Past.{Entry}
 use Rattle.laws.specs.Operations as entries
 use Rattle.laws.specs.Laws as laws
+use Rattle.laws.proofs.Tracking.{at_below}
 use Rattle.laws.proofs.Calls.{At, Calls, Starts, BeginsAt, NextEnd, AwaitsTell, Withdrawn}
 
 -- ---- a log, the oldest entry first
@@ -63,17 +64,12 @@ at_oldest [] i e h = absurd h
 at_oldest (x ∷ log) i e (inl p) = subst (λ n. entries.At (oldest log ++ x ∷ []) n e) (length_oldest log ∙ sym p.0) (subst (entries.At (oldest log ++ x ∷ []) (length (oldest log))) p.1 (at_last (oldest log) x))
 at_oldest (x ∷ log) i e (inr p) = at_before (oldest log) (x ∷ []) i e (at_oldest log i e p)
 
-pub at_below : (log : List Entry) (i : ℕ) (e : Entry) → At log i e → i < length log
-at_below [] i e h = absurd h
-at_below (x ∷ log) i e (inl p) = omega (arith, p.0)
-at_below (x ∷ log) i e (inr p) = omega (arith, at_below log i e p)
-
 -- one entry at a place
 pub at_same : (log : List Entry) (i : ℕ) (e e' : Entry) → At log i e → At log i e' → e ≡ e'
 at_same [] i e e' h k = absurd h
 at_same (x ∷ log) i e e' (inl p) (inl q) = sym p.1 ∙ q.1
-at_same (x ∷ log) i e e' (inl p) (inr q) = absurd (let r : ⊥ = omega (arith, p.0, at_below log i e' q) in r)
-at_same (x ∷ log) i e e' (inr p) (inl q) = absurd (let r : ⊥ = omega (arith, q.0, at_below log i e p) in r)
+at_same (x ∷ log) i e e' (inl p) (inr q) = absurd (omega (arith, p.0, at_below log i e' q))
+at_same (x ∷ log) i e e' (inr p) (inl q) = absurd (omega (arith, q.0, at_below log i e p))
 at_same (x ∷ log) i e e' (inr p) (inr q) = at_same log i e e' p q
 
 pub all_at_lem : (P : Entry → Type 0) (log : List Entry) (i : ℕ) (e : Entry) → AllByRecursion P log → At log i e → P e

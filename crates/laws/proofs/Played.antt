@@ -1,82 +1,43 @@
 -- Concrete pasts: every list of moves is a past, and five of them give the answers expected.
-use Rattle.std.proofs.Common.{◌≡◌, ℕ, zero, suc, ◌≤◌, Bool, true, false, cond, not, leb, List, [], ◌∷◌, ◌++◌, map, length, ℤ, Some, None, Option, refl, ap, subst, inl, inr, append_assoc, arith, lit≤}
+use Rattle.std.proofs.Common.{◌≡◌, ℕ, zero, suc, ◌≤◌, leb, List, [], ◌∷◌, ◌++◌, map, length, ℤ, Some, None, Option, refl, subst, inl, inr, append_assoc, arith, lit≤}
 use mathlib.Core.Path.{subst⁻¹}
 use Rattle.std.specs.List.Sorted.{IsPermutation}
+use Rattle.std.proofs.lemmas.List.{append-nil}
 use Rattle.std.proofs.lemmas.Bool.{leb-true}
-use Rattle.std.proofs.lemmas.List.Sorted.{IsPermutation-refl, IsPermutation-cons, IsPermutation-trans, IsPermutation-sym}
+use Rattle.std.proofs.lemmas.List.Sorted.{IsPermutation-refl, IsPermutation-cons, IsPermutation-trans, IsPermutation-middle, IsPermutation-append_comm}
 use Rattle.std.specs.Option.{option_to_list}
 use Rattle.wire.specs.declared.message.Message.{Message}
-use Rattle.wire.proofs.Shuffles.{shuffled_mid}
 use Rattle.orders.specs.declared.order.Order.{Order}
 use Rattle.orders.specs.declared.order.Order.TheVariants.{Write, Read, Tell, Carry, ReplicaOut, ClientOut}
 use Rattle.orders.specs.declared.answer.Refusal.{Refusal}
-use Rattle.orders.specs.declared.answer.Refusal.TheVariants.{Unknown, Withdrawn, Busy, NotDue, ValueRange, RoundLimit, NoRoom}
 use Rattle.orders.specs.Answers.{listed_as}
 use Rattle.quorum.specs.Deciding.{agreed, decided_at}
 use Rattle.register.specs.declared.register.Register.{Register}
-use Rattle.register.specs.Opening.{value_in_range}
 use Rattle.register.specs.State.{client_at}
 use Rattle.register.specs.Handling.{handled_reply}
-use Rattle.register.specs.Calls.{is_idle, is_due, no_reader, write_refusal, read_refusal, tell_refusal, refusal, put_out, unless, all_of, told_of, outgoing, writing, asking, telling}
+use Rattle.register.specs.Calls.{write_refusal, read_refusal, tell_refusal, refusal, put_out, unless, all_of, told_of, outgoing, writing, asking, telling}
 use Rattle.register.specs.Past.{World, sent_by, Entry, Called, Carried, Step, Past, start, more, answers_of}
 use Rattle.register.proofs.Sends.{length_copies}
+use Rattle.laws.proofs.MatchCalls.{write_passed, read_passed, tell_passed}
 use Rattle.laws.specs.Examples.{Move, ith, others, called, called_to, given, given_to, carried, carried_to, entry_by, next_by, next, played, reached, Example, opening, entries_of, Holds, Stand}
-
--- ---- the channel's list
-
-module _ {X : Type 0} where
-  append-nil : (xs : List X) → xs ++ [] ≡ xs
-  append-nil [] = refl
-  append-nil (x ∷ xs) = ap (λ l. x ∷ l) (append-nil xs)
-
-  -- what stands behind may stand in front
-  shuffled_turn : (xs ys : List X) → IsPermutation (xs ++ ys) (ys ++ xs)
-  shuffled_turn [] ys = subst⁻¹ (λ (l : List X). IsPermutation ys l) (append-nil ys) (IsPermutation-refl ys)
-  shuffled_turn (x ∷ xs) ys =
-      IsPermutation-trans _ _ _ (IsPermutation-cons x _ _ (shuffled_turn xs ys)) (IsPermutation-sym _ _ (shuffled_mid ys xs x))
 
 -- the message chosen, then the others
 chosen_first : (m : Message) (ms : List Message) (i : ℕ) → IsPermutation (m ∷ ms) (ith m ms i ∷ others m ms i)
 chosen_first m ms zero = IsPermutation-refl (m ∷ ms)
 chosen_first m [] (suc i) = IsPermutation-refl (m ∷ [])
 chosen_first m (n ∷ ms) (suc i) =
-    IsPermutation-trans _ _ _ (IsPermutation-cons m _ _ (chosen_first n ms i)) (shuffled_mid (m ∷ []) (others n ms i) (ith n ms i))
+    IsPermutation-trans _ _ _ (IsPermutation-cons m _ _ (chosen_first n ms i)) (IsPermutation-middle (m ∷ []) (ith n ms i) (others n ms i))
 
 -- ---- a place is free for each message of an accepted call
 
-passed : (b : Bool) (x : Refusal) (y : Option Refusal) → cond b (Some x) y ≡ None → y ≡ None
-passed true x y e = grind arith
-passed false x y e = e
-
-passed_room : (n places : ℕ) → cond (not (leb n places)) (Some NoRoom) None ≡ None → n ≤ places
-passed_room n places e = by (leb n places) refl e
-  where
-    by : (b : Bool) → leb n places ≡ b → cond (not b) (Some NoRoom) None ≡ None → n ≤ places
-    by true t f = leb-true n places t
-    by false t f = grind arith
-
 write_room : (r : Register) (places : ℕ) (z : ℤ) → write_refusal r (leb (all_of r) places) z ≡ None → all_of r ≤ places
-write_room r places z e =
-    let e0 = passed (client_at r 0).out Withdrawn _ e in
-    let e1 = passed (not (is_idle (client_at r 0).phase)) Busy _ e0 in
-    let e2 = passed (not (value_in_range z)) ValueRange _ e1 in
-    let e3 = passed (leb 2000000 (client_at r 0).round) RoundLimit _ e2 in
-    passed_room (all_of r) places e3
+write_room r places z e = leb-true (all_of r) places (write_passed r _ z e).3
 
 read_room : (r : Register) (places c : ℕ) → read_refusal r (leb (all_of r) places) c ≡ None → all_of r ≤ places
-read_room r places c e =
-    let e0 = passed (no_reader r c) Unknown _ e in
-    let e1 = passed (client_at r c).out Withdrawn _ e0 in
-    let e2 = passed (not (is_idle (client_at r c).phase)) Busy _ e1 in
-    let e3 = passed (leb 2000000 (client_at r c).round) RoundLimit _ e2 in
-    passed_room (all_of r) places e3
+read_room r places c e = leb-true (all_of r) places (read_passed r _ c e).4
 
 tell_room : (r : Register) (places c : ℕ) → tell_refusal r (leb (told_of r) places) c ≡ None → told_of r ≤ places
-tell_room r places c e =
-    let e0 = passed (no_reader r c) Unknown _ e in
-    let e1 = passed (client_at r c).out Withdrawn _ e0 in
-    let e2 = passed (not (is_due (client_at r c).phase)) NotDue _ e1 in
-    passed_room (told_of r) places e2
+tell_room r places c e = leb-true (told_of r) places (tell_passed r _ c e).3
 
 room_for : (x : Option Refusal) (ms : List Message) (places : ℕ) → (x ≡ None → length ms ≤ places) → length (unless x ms []) ≤ places
 room_for None ms places f = f refl
@@ -109,7 +70,7 @@ call_steps v o =
     record {
       answer = refl;
       register = refl;
-      waiting = shuffled_turn v.waiting (sent_by v o);
+      waiting = IsPermutation-append_comm v.waiting (sent_by v o);
       places = omega (arith, fits v o);
     }
 
@@ -125,7 +86,7 @@ give_steps v m rest s =
       waited = s;
       answer = refl;
       register = refl;
-      waiting = shuffled_turn rest (option_to_list (handled_reply v.register m));
+      waiting = IsPermutation-append_comm rest (option_to_list (handled_reply v.register m));
       places = omega (arith, one_reply (handled_reply v.register m));
     }
 

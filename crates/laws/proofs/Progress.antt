@@ -1,16 +1,15 @@
 -- Every reply that is awaited is on its way, so with no message waiting no call awaits one: ends in `settles`.
 use Rattle.std.proofs.Common.{◌≡◌, ℕ, zero, suc, ◌+◌, ◌*◌, ◌<◌, ◌≤◌, Bool, true, false, cond, eqb, ◌⊎◌, List, [], ◌∷◌, ◌++◌, length, ℤ, sym, refl, ap, ◌∙◌, subst, inl, inr, arith}
-use Rattle.std.proofs.lemmas.Bool.{cases_Bool, cases_eq, eqb-true}
+use Rattle.std.proofs.lemmas.List.{length-map}
+use Rattle.std.proofs.lemmas.Bool.{cases_Bool, cases_eq, eqb-true, both_ways, true≢false}
 use Rattle.register.specs.Past.{Entry}
 use Rattle.laws.proofs.Cards.{Params, Fit, Card, Slip, replicas_of}
-use Rattle.laws.proofs.Model.{put, Kind, writes, reads, tells, Msg, Phase, idle, due, awaiting, Client, State, sent, carried, Takes, InW, sets, drops, answers, delivers, phased, writing, asking, Counting, slip, Short, out_count, Trace, opening, stirred, refused, wrote, asked, told, delivered, lost, counted, finished, decided, became, replica_gone, client_gone}
+use Rattle.laws.proofs.Model.{put, Kind, writes, reads, tells, Msg, Phase, idle, due, awaiting, Client, State, sent, carried, Takes, sets, drops, answers, delivers, phased, writing, asking, Counting, slip, Short, out_count, Trace, opening, stirred, refused, wrote, asked, told, delivered, lost, counted, finished, decided, became, replica_gone, client_gone}
 use Rattle.laws.proofs.History.{values}
 use Rattle.laws.proofs.Claims.{Settled, Settles}
 use Rattle.laws.proofs.Members.{Among, among?, without, without_less, without_keeps}
 use Rattle.laws.proofs.Tables.{put_case}
-use Rattle.laws.proofs.Apart.{true_false}
 use Rattle.laws.proofs.Waiting.{all_takes, taken_or_waits, waits_behind, sent_waits}
-use Rattle.laws.proofs.Slips.{length_replicas}
 use Rattle.laws.proofs.Deciding.{three_times}
 use Rattle.laws.proofs.Safety.{Awaits, MsgFine, Safe}
 use Rattle.laws.proofs.Invariant.{invariant}
@@ -57,14 +56,14 @@ out_one_more p i n = (go n).0
 -- a message of client c's round r to or from replica i waits, and if it is to the replica, that has not yet heard of the round
 pub record OnWay (w : List Msg) (heard : ℕ → ℕ → ℕ) (k : Kind) (c r i : ℕ) : Type 0 where
   pub message : Msg
-  pub waits : InW message w
+  pub waits : Among message w
   pub kind : message.kind ≡ k
   pub client : message.client ≡ c
   pub round : message.round ≡ r
   pub replica : message.replica ≡ i
   pub open_yet : message.reply ≡ false → heard i c < r
 
-on_way : (w w' : List Msg) (heard heard' : ℕ → ℕ → ℕ) (k : Kind) (c r i : ℕ) (a : OnWay w heard k c r i) → InW a.message w' → (a.message.reply ≡ false → heard' i c < r) → OnWay w' heard' k c r i
+on_way : (w w' : List Msg) (heard heard' : ℕ → ℕ → ℕ) (k : Kind) (c r i : ℕ) (a : OnWay w heard k c r i) → Among a.message w' → (a.message.reply ≡ false → heard' i c < r) → OnWay w' heard' k c r i
 on_way w w' heard heard' k c r i a waits yet = record { message = a.message; waits = waits; kind = a.kind; client = a.client; round = a.round; replica = a.replica; open_yet = yet }
 
 -- the replicas that a set of messages goes to
@@ -98,9 +97,9 @@ module _ (g : Params) (fit : Fit g) where
   -- The replies of all replicas asked that are not out are enough.
   enough : (b : State) (k : Kind) (ss : List Slip) → out_count b.replica_out g.replicas ≤ g.tolerated
       → ((i : ℕ) → i < targets g k → b.replica_out i ≡ false → Among i (replicas_of ss)) → Short g k ss → ⊥
-  enough b writes ss o h s = omega (arith, present_few_out b.replica_out g.replicas (replicas_of ss) h, length_replicas ss)
-  enough b reads ss o h s = omega (arith, present_few_out b.replica_out g.replicas (replicas_of ss) h, length_replicas ss)
-  enough b tells ss o h s = omega (arith, present_few_out b.replica_out (3 * g.tolerated + 1) (replicas_of ss) h, length_replicas ss, out_fewer b.replica_out (3 * g.tolerated + 1) g.replicas (three_times g fit))
+  enough b writes ss o h s = omega (arith, present_few_out b.replica_out g.replicas (replicas_of ss) h, length-map ss (λ s. s.replica))
+  enough b reads ss o h s = omega (arith, present_few_out b.replica_out g.replicas (replicas_of ss) h, length-map ss (λ s. s.replica))
+  enough b tells ss o h s = omega (arith, present_few_out b.replica_out (3 * g.tolerated + 1) (replicas_of ss) h, length-map ss (λ s. s.replica), out_fewer b.replica_out (3 * g.tolerated + 1) g.replicas (three_times g fit))
 
   -- With nothing waiting no client awaits a reply.
   settled : (b : State) → Progress g b → Settled b
@@ -110,12 +109,12 @@ module _ (g : Params) (fit : Fit g) where
       go idle h = inl refl
       go due h = inr refl
       go (awaiting k ss) owing =
-          absurd (enough b k ss h.out (λ i lt o. elim (owing.each i lt o) [ inl a ↦ a | inr a ↦ absurd (subst (InW a.message) e a.waits) ]) owing.short)
+          absurd (enough b k ss h.out (λ i lt o. elim (owing.each i lt o) [ inl a ↦ a | inr a ↦ absurd (subst (Among a.message) e a.waits) ]) owing.short)
 
 -- ---- each change keeps it
 
 put_false : (p : ℕ → Bool) (i j : ℕ) → put p i true j ≡ false → p j ≡ false
-put_false p i j h = put_case (λ n t. t ≡ false → p n ≡ false) p i true j (λ e q. true_false true refl q) (λ e q. q) h
+put_false p i j h = put_case (λ n t. t ≡ false → p n ≡ false) p i true j (λ e q. absurd (true≢false q)) (λ e q. q) h
 
 -- why a message is lost or ignored: its replica or client is out, it is old, or it does not count
 abbrev Idle : State → Msg → Type 0
@@ -208,12 +207,12 @@ module _ (g : Params) where
           let kd : m.kind ≡ k = ap (λ (y : Msg). y.kind) (sym z) ∙ a.kind in
           elim y [
             | inl p ↦ elim p.1 [
-              | inl o ↦ true_false (b.replica_out i) (subst (λ n. b.replica_out n ≡ true) at o) q
+              | inl o ↦ absurd (both_ways (b.replica_out i) q (subst (λ n. b.replica_out n ≡ true) at o))
               | inr s ↦ absurd (let ok : b.heard i c < (b.clients c).round = a.open_yet (ap (λ (y : Msg). y.reply) z ∙ p.0) in
                   let s2 : m.round ≤ b.heard i c = subst (λ n. m.round ≤ b.heard i n) cl (subst (λ n. m.round ≤ b.heard n m.client) at s) in let r : ⊥ = omega arith in r)
             ]
             | inr p ↦ elim p.1 [
-              | inl o ↦ true_false (b.client_out c) (subst (λ n. b.client_out n ≡ true) cl o) present
+              | inl o ↦ absurd (both_ways (b.client_out c) present (subst (λ n. b.client_out n ≡ true) cl o))
               | inr no' ↦ elim (among? m.replica (replicas_of ss)) [
                 | inl a' ↦ subst (λ n. Among n (replicas_of ss)) at a'
                 | inr a' ↦ absurd (no' k ss (record { replies = p.0; kind = kd; awaited = ap (λ n. (b.clients n).phase) cl ∙ e; round = rd ∙ ap (λ n. (b.clients n).round) (sym cl); fresh = a' }))
@@ -245,7 +244,7 @@ module _ (g : Params) where
       w' = answers (b.replicas m.replica) m ∷ w
 
       new : (k : Kind) (c i : ℕ) → m.kind ≡ k → m.client ≡ c → m.round ≡ (b.clients c).round → m.replica ≡ i → OnWay w' heard' k c (b.clients c).round i
-      new k c i kd cl rd at = record { message = answers (b.replicas m.replica) m; waits = inl refl; kind = kd; client = cl; round = rd; replica = at; open_yet = λ q. true_false true refl q }
+      new k c i kd cl rd at = record { message = answers (b.replicas m.replica) m; waits = inl refl; kind = kd; client = cl; round = rd; replica = at; open_yet = λ q. absurd (true≢false q) }
 
       stays : (k : Kind) (ss : List Slip) (c i : ℕ) → (b.clients c).phase ≡ awaiting k ss → OnWay w b.heard k c (b.clients c).round i → OnWay w' heard' k c (b.clients c).round i
       stays k ss c i e a =
@@ -285,6 +284,10 @@ module _ (g : Params) where
       b' : State
       b' = sets b c x (sent k c x.round d (targets g k) ++ b.waiting)
 
+pub none_out : (n : ℕ) → out_count (λ i. false) n ≡ 0
+none_out zero = refl
+none_out (suc n) = omega (arith, none_out n)
+
 module _ (g : Params) (fit : Fit g) (f : ℤ) where
   none_yet : (k : Kind) → Short g k []
   none_yet writes = omega (arith, three_times g fit)
@@ -293,11 +296,7 @@ module _ (g : Params) (fit : Fit g) (f : ℤ) where
 
   -- Every past of the model makes progress.
   pub progress : (log : List Entry) (b : State) → Trace g f log b → Progress g b
-  progress log b opening = record { heard = λ i c. omega arith; out = none_out g.replicas; calls = λ c p. tt }
-    where
-      none_out : (n : ℕ) → out_count (λ i. false) n ≤ g.tolerated
-      none_out zero = omega arith
-      none_out (suc n) = omega (arith, none_out n)
+  progress log b opening = record { heard = λ i c. omega arith; out = omega (arith, none_out g.replicas); calls = λ c p. tt }
   progress log b (stirred {b = b₀} w same p) =
       let h = progress log b₀ p in
       record {

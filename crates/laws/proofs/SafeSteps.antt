@@ -1,18 +1,18 @@
 -- Each change of a state keeps `Safe`: ends in `safe_wrote`, the last of seven such lemmas.
-use Rattle.std.proofs.Common.{◌≡◌, ℕ, zero, suc, ◌+◌, ◌-◌, ◌*◌, ◌<◌, ◌≤◌, true, false, eqb, ◌⊎◌, List, [], ◌∷◌, ◌++◌, length, ℤ, sym, refl, ap, ◌∙◌, subst, inl, inr, arith}
-use Rattle.std.proofs.ByRecursion.{All-append, all-has, All-weaker}
-use Rattle.std.proofs.lemmas.Bool.{cases_lt, cond-true, eq-eqb}
+use Rattle.std.proofs.Common.{◌≡◌, ℕ, zero, suc, ◌+◌, ◌-◌, ◌*◌, ◌<◌, ◌≤◌, false, eqb, ◌⊎◌, List, [], ◌∷◌, ◌++◌, length, ℤ, sym, refl, ap, ◌∙◌, subst, inl, inr, arith}
+use Rattle.std.proofs.ByRecursion.{All-map, All-append, all-has, All-weaker}
+use Rattle.std.proofs.lemmas.List.{length-map}
+use Rattle.std.proofs.lemmas.Bool.{cases_lt, cond-true, eq-eqb, true≢false, false≢true}
 use Rattle.std.specs.List.{AllByRecursion}
 use Rattle.laws.proofs.Sets.{Within, Many}
 use Rattle.laws.proofs.Cards.{Params, Fit, Card, Slip, replicas_of, Ahead, Later}
 use Rattle.laws.proofs.Model.{put, Kind, writes, reads, tells, Msg, Phase, idle, due, awaiting, Client, State, after, sent, carried, Takes, sets, drops, delivers, phased, writing, asking, Learnt, Counting, slip}
 use Rattle.laws.proofs.History.{value_at}
 use Rattle.laws.proofs.Tables.{put_case, put_two}
-use Rattle.laws.proofs.Apart.{true_false, reads_not_writes, awaiting_not_idle}
+use Rattle.laws.proofs.Apart.{reads_not_writes, awaiting_not_idle}
 use Rattle.laws.proofs.Waiting.{all_takes}
 use Rattle.laws.proofs.Growing.{later_self, ahead_stays, later_trans, after_catches_up, after_has_marks, after_noted, replica_only_grows}
 use Rattle.laws.proofs.FineCards.{CardFine, value_stays, fine_stays, after_fine}
-use Rattle.laws.proofs.Slips.{all_replicas, length_replicas}
 use Rattle.laws.proofs.Established.{Established, written, Posted, established_stays}
 use Rattle.laws.proofs.Safety.{Awaits, Owed, MsgFine, Gathered, PhaseFine, ClientFine, Safe}
 
@@ -130,8 +130,8 @@ module _ (g : Params) (xs : List ℤ) (f : ℤ) where
         round = omega arith;
         request = λ p. own;
         current = λ p q j w. a j w;
-        reply = λ p. true_false false p refl;
-        owed = λ p. true_false false p refl;
+        reply = λ p. absurd (false≢true p);
+        owed = λ p. absurd (false≢true p);
       },
       refl,
     ),
@@ -186,8 +186,8 @@ module _ (g : Params) (xs : List ℤ) (f : ℤ) where
             replica = mine.replica;
             known = mine.known;
             round = mine.round;
-            request = λ p. true_false true refl p;
-            current = λ p. true_false true refl p;
+            request = λ p. absurd (true≢false p);
+            current = λ p. absurd (true≢false p);
             reply = λ p. put_case (λ j d. Later (after (b.replicas m.replica) m) d) b.replicas m.replica (after (b.replicas m.replica) m) m.replica (λ e. later_self _) (λ ne. absurd (ne refl));
             owed = λ p r k a. reply_owes b.replicas m x (old m.client) nr mine x.phase refl (s.clients m.client).phase r k a;
           },
@@ -249,9 +249,9 @@ module _ (g : Params) (xs : List ℤ) (f : ℤ) where
       record {
         places = replicas_of ss;
         distinct = x.distinct;
-        below = all_replicas (λ i. i < g.replicas) ss x.below;
-        enough = omega (arith, length_replicas ss);
-        each = all_replicas (λ i. Q (replicas i)) ss (go ss x.owed x.now);
+        below = All-map (λ i. i < g.replicas) (λ s. s.replica) ss x.below;
+        enough = omega (arith, length-map ss (λ s. s.replica));
+        each = All-map (λ i. Q (replicas i)) (λ s. s.replica) ss (go ss x.owed x.now);
       }
     where
       go : (ys : List Slip) → AllByRecursion (λ s. Owed g c v o k s.replica s.card) ys → AllByRecursion (λ s. Later s.card (replicas s.replica)) ys → AllByRecursion (λ s. Q (replicas s.replica)) ys

@@ -1,5 +1,5 @@
 -- Sets of numbered replicas as lists without repeats, and masks of marks.
-use Rattle.std.proofs.Common.{◌≡◌, ℕ, ◌+◌, ◌<◌, ◌≤◌, List, [], ◌∷◌, length}
+use Rattle.std.proofs.Common.{◌≡◌, ℕ, ◌<◌, ◌≤◌, List, [], ◌∷◌, length}
 use lib.Bits.{bit_and}
 use Rattle.std.specs.List.{AllByRecursion}
 
@@ -21,6 +21,3 @@ pub record Many (s m : ℕ) (P : ℕ → Type 0) : Type 0 where
   pub below : AllByRecursion (λ i. i < s) places
   pub enough : m ≤ length places
   pub each : AllByRecursion P places
-
-abbrev pub Pigeon : Type 0
-Pigeon = (s a b m : ℕ) (p q : ℕ → ℕ) → Many s a (λ i. p i ≡ 0) → Many s b (λ i. q i ≡ 0) → m + s ≤ a + b → Many s m (λ i. (p i ≡ 0) × (q i ≡ 0))

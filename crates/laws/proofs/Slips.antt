@@ -1,22 +1,14 @@
 -- Slips and the replicas that they come from: ends in `several_tallied`, which ties a set of slips to a count of those that pass a test.
-use Rattle.std.proofs.Common.{◌≡◌, ℕ, suc, ◌≤◌, max, Bool, true, List, [], ◌∷◌, length, filter, sym, refl, ap, subst, inl, inr, arith}
-use Rattle.std.proofs.ByRecursion.{all-has, all_has_itself, all_kept_by, All-weaker, kept_by_passes}
-use Rattle.std.proofs.lemmas.Bool.{cond_both}
+use Rattle.std.proofs.Common.{◌≡◌, ℕ, ◌≤◌, max, Bool, true, List, [], ◌∷◌, map, length, filter, sym, refl, subst, inl, inr, arith}
+use mathlib.Core.List.{map-map}
+use Rattle.std.proofs.lemmas.List.{length-map}
+use Rattle.std.proofs.ByRecursion.{all-has, All-map, all_kept_by, All-weaker, kept_by_passes}
+use Rattle.std.proofs.lemmas.Bool.{cond_both, both_ways}
 use Rattle.std.specs.List.{ContainsAt as Has, AllByRecursion}
 use Rattle.laws.proofs.Sets.{Lacks, Distinct, Many}
 use Rattle.laws.proofs.Cards.{Card, Slip, replicas_of, highest, Several}
 use Rattle.laws.proofs.Members.{Among, no_longer}
-use Rattle.laws.proofs.Apart.{true_false}
 
-pub all_replicas : (P : ℕ → Type 0) (ss : List Slip) → AllByRecursion (λ s. P s.replica) ss → AllByRecursion P (replicas_of ss)
-all_replicas P [] h = tt
-all_replicas P (s ∷ ss) h = (h.0, all_replicas P ss h.1)
-
-pub length_replicas : (ss : List Slip) → length (replicas_of ss) ≡ length ss
-length_replicas [] = refl
-length_replicas (s ∷ ss) = ap suc (length_replicas ss)
-
--- No slip is above the highest.
 pub highest_tops : (ss : List Slip) → AllByRecursion (λ s. s.card.version ≤ highest ss) ss
 highest_tops [] = tt
 highest_tops (s ∷ ss) = (omega arith, All-weaker (λ (x : Slip). x.card.version ≤ highest ss) (λ (x : Slip). x.card.version ≤ max s.card.version (highest ss)) (λ x h. omega arith) ss (highest_tops ss))
@@ -67,45 +59,53 @@ several_from_many s ss m P x =
     let r = take_slips ss P x.places x.each in
     record { chosen = r.chosen; distinct = subst Distinct (sym r.replicas) x.distinct; from = r.from; enough = omega (arith, r.size, x.enough); each = r.each }
 
--- ---- slips that pass a test
+-- ---- what passes a test, of a list of anything that stands for a slip
 
-module _ (p : Slip → Bool) (P : Card → Type 0) (right : (s : Slip) → p s ≡ true → P s.card) (whole : (s : Slip) → P s.card → p s ≡ true) where
-  lacks_kept : (n : ℕ) (ss : List Slip) → Lacks n (replicas_of ss) → Lacks n (replicas_of (filter p ss))
+module _ {X : Type 0} (slip : X → Slip) (p : X → Bool) (P : Card → Type 0) where
+  abbrev sender : X → ℕ
+  sender x = (slip x).replica
+
+  lacks_kept : (n : ℕ) (xs : List X) → Lacks n (map sender xs) → Lacks n (map sender (filter p xs))
   lacks_kept n [] h = tt
-  lacks_kept n (s ∷ ss) h =
-      cond_both (p s) (s ∷ filter p ss) (filter p ss) (λ (ys : List Slip). Lacks n (replicas_of ys)) (λ e. (h.0, lacks_kept n ss h.1)) (λ e. lacks_kept n ss h.1)
+  lacks_kept n (x ∷ xs) h =
+      cond_both (p x) (x ∷ filter p xs) (filter p xs) (λ (ys : List X). Lacks n (map sender ys)) (λ e. (h.0, lacks_kept n xs h.1)) (λ e. lacks_kept n xs h.1)
 
-  distinct_kept : (ss : List Slip) → Distinct (replicas_of ss) → Distinct (replicas_of (filter p ss))
+  distinct_kept : (xs : List X) → Distinct (map sender xs) → Distinct (map sender (filter p xs))
   distinct_kept [] h = tt
-  distinct_kept (s ∷ ss) h =
-      cond_both (p s) (s ∷ filter p ss) (filter p ss) (λ (ys : List Slip). Distinct (replicas_of ys)) (λ e. (lacks_kept s.replica ss h.0, distinct_kept ss h.1)) (λ e. distinct_kept ss h.1)
+  distinct_kept (x ∷ xs) h =
+      cond_both (p x) (x ∷ filter p xs) (filter p xs) (λ (ys : List X). Distinct (map sender ys)) (λ e. (lacks_kept (sender x) xs h.0, distinct_kept xs h.1)) (λ e. distinct_kept xs h.1)
 
   -- As many slips of distinct replicas as pass the test are several.
-  pub tallied_several : (ss : List Slip) (m : ℕ) → Distinct (replicas_of ss) → m ≤ length (filter p ss) → Several ss m P
-  tallied_several ss m d h =
+  pub tallied_several : ((x : X) → p x ≡ true → P (slip x).card) → (ss : List Slip) (xs : List X) (m : ℕ) → AllByRecursion (λ x. Has ss (slip x)) xs → Distinct (map sender xs) → m ≤ length (filter p xs) → Several ss m P
+  tallied_several right ss xs m has d h =
       record {
-        chosen = filter p ss;
-        distinct = distinct_kept ss d;
-        from = all_kept_by p (Has ss) ss (all_has_itself ss);
-        enough = h;
-        each = All-weaker (λ s. p s ≡ true) (λ s. P s.card) right (filter p ss) (kept_by_passes p ss);
+        chosen = map slip (filter p xs);
+        distinct = subst Distinct (sym (map-map (λ (s : Slip). s.replica) slip (filter p xs))) (distinct_kept xs d);
+        from = All-map (Has ss) slip (filter p xs) (all_kept_by p (λ x. Has ss (slip x)) xs has);
+        enough = omega (arith, h, length-map (filter p xs) slip);
+        each = All-map (λ s. P s.card) slip (filter p xs) (All-weaker (λ x. p x ≡ true) (λ x. P (slip x).card) right (filter p xs) (kept_by_passes p xs));
       }
 
-  passes_kept : (ss : List Slip) → AllByRecursion (λ s. p s ≡ true → Among s.replica (replicas_of (filter p ss))) ss
+  passes_kept : (xs : List X) → AllByRecursion (λ x. p x ≡ true → Among (sender x) (map sender (filter p xs))) xs
   passes_kept [] = tt
-  passes_kept (s ∷ ss) = (
-    cond_both (p s) (s ∷ filter p ss) (filter p ss) (λ (ys : List Slip). p s ≡ true → Among s.replica (replicas_of ys)) (λ e q. inl refl) (λ e q. true_false (p s) q e),
-    All-weaker (λ (x : Slip). p x ≡ true → Among x.replica (replicas_of (filter p ss))) _
-        (λ x h q. cond_both (p s) (s ∷ filter p ss) (filter p ss) (λ (ys : List Slip). Among x.replica (replicas_of ys)) (λ e. inr (h q)) (λ e. h q)) ss (passes_kept ss),
+  passes_kept (x ∷ xs) = (
+    cond_both (p x) (x ∷ filter p xs) (filter p xs) (λ (ys : List X). p x ≡ true → Among (sender x) (map sender ys)) (λ e q. inl refl) (λ e q. absurd (both_ways (p x) e q)),
+    All-weaker (λ (y : X). p y ≡ true → Among (sender y) (map sender (filter p xs))) _
+        (λ y h q. cond_both (p x) (x ∷ filter p xs) (filter p xs) (λ (ys : List X). Among (sender y) (map sender ys)) (λ e. inr (h q)) (λ e. h q)) xs (passes_kept xs),
   )
 
-  -- Of several such slips at least as many pass the test.
-  pub several_tallied : (ss : List Slip) (m : ℕ) → Several ss m P → m ≤ length (filter p ss)
-  several_tallied ss m x =
-      let few : length (replicas_of x.chosen) ≤ length (replicas_of (filter p ss)) =
-      no_longer (replicas_of x.chosen) (replicas_of (filter p ss)) x.distinct (all_replicas (λ n. Among n (replicas_of (filter p ss))) x.chosen (go x.chosen x.from x.each)) in
-      omega (arith, x.enough, length_replicas x.chosen, length_replicas (filter p ss))
+  -- Of several such slips, each of them one of the list, at least as many pass the test.
+  pub several_tallied : ((x : X) → P (slip x).card → p x ≡ true) → (ss : List Slip) (xs : List X) (m : ℕ) → ((Q : Slip → Type 0) → AllByRecursion (λ x. Q (slip x)) xs → AllByRecursion Q ss) → Several ss m P → m ≤ length (filter p xs)
+  several_tallied whole ss xs m every v =
+      let few : length (replicas_of v.chosen) ≤ length (map sender (filter p xs)) =
+      no_longer (replicas_of v.chosen) (map sender (filter p xs)) v.distinct (All-map (λ n. Among n (map sender (filter p xs))) (λ s. s.replica) v.chosen (go v.chosen v.from v.each)) in
+      omega (arith, v.enough, length-map v.chosen (λ s. s.replica), length-map (filter p xs) sender)
     where
-      go : (ys : List Slip) → AllByRecursion (Has ss) ys → AllByRecursion (λ s. P s.card) ys → AllByRecursion (λ s. Among s.replica (replicas_of (filter p ss))) ys
+      found : AllByRecursion (λ (s : Slip). P s.card → Among s.replica (map sender (filter p xs))) ss
+      found =
+          every (λ s. P s.card → Among s.replica (map sender (filter p xs)))
+          (All-weaker (λ x. p x ≡ true → Among (sender x) (map sender (filter p xs))) (λ x. P (slip x).card → Among (sender x) (map sender (filter p xs))) (λ x h c. h (whole x c)) xs (passes_kept xs))
+
+      go : (ys : List Slip) → AllByRecursion (Has ss) ys → AllByRecursion (λ s. P s.card) ys → AllByRecursion (λ s. Among s.replica (map sender (filter p xs))) ys
       go [] f e = tt
-      go (y ∷ ys) f e = (all-has (λ s. p s ≡ true → Among s.replica (replicas_of (filter p ss))) ss y (passes_kept ss) f.0 (whole y e.0), go ys f.1 e.1)
+      go (y ∷ ys) f e = (all-has (λ s. P s.card → Among s.replica (map sender (filter p xs))) ss y found f.0 e.0, go ys f.1 e.1)

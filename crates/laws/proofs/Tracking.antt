@@ -24,25 +24,19 @@ ends_below log c i h = at_below log i h.0 h.1
 
 -- ---- one more entry
 
-pub begins_more : (x : Entry) (log : List Entry) (c i : ℕ) → BeginsAt log c i → BeginsAt (x ∷ log) c i
-begins_more x log c i h = (h.0, inr h.1, h.2)
+pub at_more : (P : Entry → Type 0) (x : Entry) (log : List Entry) (i : ℕ) → (e : Entry) × At log i e × P e → (e : Entry) × At (x ∷ log) i e × P e
+at_more P x log i h = (h.0, inr h.1, h.2)
 
-ends_more : (x : Entry) (log : List Entry) (c i : ℕ) → EndsAt log c i → EndsAt (x ∷ log) c i
-ends_more x log c i h = (h.0, inr h.1, h.2)
-
-begins_split : (x : Entry) (log : List Entry) (c i : ℕ) → BeginsAt (x ∷ log) c i → ((i ≡ length log) × Starts c x) ⊎ BeginsAt log c i
-begins_split x log c i h = elim h.1 [ inl p ↦ inl (p.0, subst (Starts c) (sym p.1) h.2) | inr p ↦ inr (h.0, p, h.2) ]
-
-ends_split : (x : Entry) (log : List Entry) (c i : ℕ) → EndsAt (x ∷ log) c i → ((i ≡ length log) × Ends c x) ⊎ EndsAt log c i
-ends_split x log c i h = elim h.1 [ inl p ↦ inl (p.0, subst (Ends c) (sym p.1) h.2) | inr p ↦ inr (h.0, p, h.2) ]
+at_split : (P : Entry → Type 0) (x : Entry) (log : List Entry) (i : ℕ) → (e : Entry) × At (x ∷ log) i e × P e → ((i ≡ length log) × P x) ⊎ ((e : Entry) × At log i e × P e)
+at_split P x log i h = elim h.1 [ inl p ↦ inl (p.0, subst P (sym p.1) h.2) | inr p ↦ inr (h.0, p, h.2) ]
 
 next_more : (x : Entry) (log : List Entry) (c i j : ℕ) → NextEnd log c i j → NextEnd (x ∷ log) c i j
 next_more x log c i j h =
     let b = ends_below log c j h.ends in
     record {
       after = h.after;
-      ends = ends_more x log c j h.ends;
-      first = λ n p q e. elim (ends_split x log c n e) [ inl y ↦ absurd (let r : ⊥ = omega (arith, y.0) in r) | inr y ↦ h.first n p q y ];
+      ends = at_more (Ends c) x log j h.ends;
+      first = λ n p q e. elim (at_split (Ends c) x log n e) [ inl y ↦ absurd (omega (arith, y.0)) | inr y ↦ h.first n p q y ];
     }
 
 -- ---- one client
@@ -72,13 +66,13 @@ pub record Tracked (log : List Entry) (clients : ℕ → Client) : Type 0 where
 -- An entry that neither starts nor ends a call of c keeps what is tracked of c.
 module _ (x : Entry) (log : List Entry) (c : ℕ) (ns : Starts c x → ⊥) (ne : Ends c x → ⊥) where
   old_begins : (i : ℕ) → BeginsAt (x ∷ log) c i → BeginsAt log c i
-  old_begins i h = elim (begins_split x log c i h) [ inl p ↦ absurd (ns p.1) | inr p ↦ p ]
+  old_begins i h = elim (at_split (Starts c) x log i h) [ inl p ↦ absurd (ns p.1) | inr p ↦ p ]
 
   open_quiet : (at : ℕ) → Open log c at → Open (x ∷ log) c at
   open_quiet at h =
       record {
-        begins = begins_more x log c at h.begins;
-        none = λ n lt e. elim (ends_split x log c n e) [ inl p ↦ ne p.1 | inr p ↦ h.none n lt p ];
+        begins = at_more (Starts c) x log at h.begins;
+        none = λ n lt e. elim (at_split (Ends c) x log n e) [ inl p ↦ ne p.1 | inr p ↦ h.none n lt p ];
         others = λ i b. elim (h.others i (old_begins i b)) [ inl p ↦ inl p | inr p ↦ inr (p.0, next_more x log c i p.0 p.1, p.2) ];
       }
 
@@ -100,7 +94,7 @@ module _ (x : Entry) (log : List Entry) (c : ℕ) (ns : Starts c x → ⊥) (ne 
   track_quiet at (awaiting k ss) nt h = open_quiet at h
 
   pub apart_quiet : Apart log c → Apart (x ∷ log) c
-  apart_quiet h i i' b b' lt = let r = h i i' (old_begins i b) (old_begins i' b') lt in (r.0, r.1, r.2, ends_more x log c r.0 r.3)
+  apart_quiet h i i' b b' lt = let r = h i i' (old_begins i b) (old_begins i' b') lt in (r.0, r.1, r.2, at_more (Ends c) x log r.0 r.3)
 
 -- A call of c starts.
 module _ (x : Entry) (log : List Entry) (c : ℕ) (st : Starts c x) (rest : (i : ℕ) → BeginsAt log c i → (j : ℕ) × NextEnd log c i j) where
@@ -108,8 +102,8 @@ module _ (x : Entry) (log : List Entry) (c : ℕ) (st : Starts c x) (rest : (i :
   open_start =
       record {
         begins = (x, inl (refl, refl), st);
-        none = λ n lt e. absurd (let r : ⊥ = omega (arith, ends_below (x ∷ log) c n e) in r);
-        others = λ i b. elim (begins_split x log c i b) [
+        none = λ n lt e. absurd (omega (arith, ends_below (x ∷ log) c n e));
+        others = λ i b. elim (at_split (Starts c) x log i b) [
           | inl p ↦ inl p.0
           | inr p ↦ (let r = rest i p in inr (r.0, next_more x log c i r.0 r.1, ends_below log c r.0 r.1.ends))
         ];
@@ -117,11 +111,11 @@ module _ (x : Entry) (log : List Entry) (c : ℕ) (st : Starts c x) (rest : (i :
 
   pub apart_start : Apart log c → Apart (x ∷ log) c
   apart_start h i i' b b' lt =
-      elim (begins_split x log c i b) [
-        | inl p ↦ absurd (let r : ⊥ = omega (arith, p.0, begins_below (x ∷ log) c i' b') in r)
-        | inr p ↦ elim (begins_split x log c i' b') [
-          | inl q ↦ (let r = rest i p in (r.0, r.1.after, omega (arith, q.0, ends_below log c r.0 r.1.ends), ends_more x log c r.0 r.1.ends))
-          | inr q ↦ (let r = h i i' p q lt in (r.0, r.1, r.2, ends_more x log c r.0 r.3))
+      elim (at_split (Starts c) x log i b) [
+        | inl p ↦ absurd (omega (arith, p.0, begins_below (x ∷ log) c i' b'))
+        | inr p ↦ elim (at_split (Starts c) x log i' b') [
+          | inl q ↦ (let r = rest i p in (r.0, r.1.after, omega (arith, q.0, ends_below log c r.0 r.1.ends), at_more (Ends c) x log r.0 r.1.ends))
+          | inr q ↦ (let r = h i i' p q lt in (r.0, r.1, r.2, at_more (Ends c) x log r.0 r.3))
         ]
       ]
 
@@ -135,29 +129,29 @@ module _ (x : Entry) (log : List Entry) (c at : ℕ) (en : Ends c x) (o : Open l
       record {
         after = begins_below log c at o.begins;
         ends = (x, inl (refl, refl), en);
-        first = λ n lt k e. elim (ends_split x log c n e) [ inl p ↦ absurd (let r : ⊥ = omega (arith, p.0) in r) | inr p ↦ o.none n lt p ];
+        first = λ n lt k e. elim (at_split (Ends c) x log n e) [ inl p ↦ absurd (omega (arith, p.0)) | inr p ↦ o.none n lt p ];
       }
 
   pub track_end : (i : ℕ) → BeginsAt (x ∷ log) c i → (j : ℕ) × NextEnd (x ∷ log) c i j
   track_end i b =
-      elim (begins_split x log c i b) [
+      elim (at_split (Starts c) x log i b) [
         | inl p ↦ absurd (no_start x en p.1)
         | inr p ↦ elim (o.others i p) [ inl e ↦ (length log, subst (λ n. NextEnd (x ∷ log) c n (length log)) (sym e) the_next) | inr r ↦ (r.0, next_more x log c i r.0 r.1) ]
       ]
 
   pub apart_end : Apart log c → Apart (x ∷ log) c
   apart_end h i i' b b' lt =
-      elim (begins_split x log c i b) [
+      elim (at_split (Starts c) x log i b) [
         | inl p ↦ absurd (no_start x en p.1)
-        | inr p ↦ elim (begins_split x log c i' b') [
+        | inr p ↦ elim (at_split (Starts c) x log i' b') [
           | inl q ↦ absurd (no_start x en q.1)
-          | inr q ↦ (let r = h i i' p q lt in (r.0, r.1, r.2, ends_more x log c r.0 r.3))
+          | inr q ↦ (let r = h i i' p q lt in (r.0, r.1, r.2, at_more (Ends c) x log r.0 r.3))
         ]
       ]
 
 pub sound_more : (x : Entry) (log : List Entry) (ds : List Done) → AllByRecursion (λ d. BeginsAt log d.client d.begin × NextEnd log d.client d.begin d.end) ds
     → AllByRecursion (λ d. BeginsAt (x ∷ log) d.client d.begin × NextEnd (x ∷ log) d.client d.begin d.end) ds
-sound_more x log ds h = All-weaker _ _ (λ d p. (begins_more x log d.client d.begin p.0, next_more x log d.client d.begin d.end p.1)) ds h
+sound_more x log ds h = All-weaker _ _ (λ d p. (at_more (Starts d.client) x log d.begin p.0, next_more x log d.client d.begin d.end p.1)) ds h
 
 -- ---- the list of the ended calls
 
@@ -165,7 +159,7 @@ sound_more x log ds h = All-weaker _ _ (λ d p. (begins_more x log d.client d.be
 from_end : (log : List Entry) (c j : ℕ) → EndsAt log c j → (d : Done) × Has (done log) d × (d.client ≡ c) × (d.end ≡ j)
 from_end [] c j h = absurd h.1
 from_end (x ∷ log) c j h =
-    elim (ends_split x log c j h) [
+    elim (at_split (Ends c) x log j h) [
       | inl p ↦ simp (eq-eqb (listed_as x.answer).code 105 p.1.0) (_, has_here _ (done log), p.1.1, sym p.0)
       | inr p ↦ (let r = from_end log c j p in
           elim (cases_Bool (eqb (listed_as x.answer).code 105)) [

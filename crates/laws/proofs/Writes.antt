@@ -95,7 +95,7 @@ more_write f x log i n h =
         at = inr h.at;
         accepted = h.accepted;
         order = subst (λ (vs : List ℤ). h.entry.order ≡ Write (value_at vs f n)) (sym e.1)
-            (h.order ∙ ap Write (sym (cond-false _ e.0 (value_at (values log) f n) (ne_eqb n (suc (length (values log))) (λ q. absurd (let r : ⊥ = omega (arith, q, h.high) in r))))));
+            (h.order ∙ ap Write (sym (cond-false _ e.0 (value_at (values log) f n) (ne_eqb n (suc (length (values log))) (λ q. absurd (omega (arith, q, h.high)))))));
         low = h.low;
         high = subst (λ (vs : List ℤ). n ≤ length vs) (sym e.1) (omega (arith, h.high));
       }
@@ -121,8 +121,8 @@ write_order f (x ∷ log) none i n (inr p) = more_write f x log i n (write_order
 pub write_place : (f : ℤ) (log : List Entry) → AllByRecursion NoReadOfWriter log → (i j n : ℕ) → WriteNo log i n → WriteNo log j n → i ≡ j
 write_place f [] none i j n h k = absurd h
 write_place f (x ∷ log) none i j n (inl p) (inl q) = p.0 ∙ sym q.0
-write_place f (x ∷ log) none i j n (inl p) (inr q) = absurd (let r : ⊥ = omega (arith, p.2, (write_order f log none.1 j n q).high) in r)
-write_place f (x ∷ log) none i j n (inr p) (inl q) = absurd (let r : ⊥ = omega (arith, q.2, (write_order f log none.1 i n p).high) in r)
+write_place f (x ∷ log) none i j n (inl p) (inr q) = absurd (omega (arith, p.2, (write_order f log none.1 j n q).high))
+write_place f (x ∷ log) none i j n (inr p) (inl q) = absurd (omega (arith, q.2, (write_order f log none.1 i n p).high))
 write_place f (x ∷ log) none i j n (inr p) (inr q) = write_place f log none.1 i j n p q
 
 last_more : (x : Entry) (log : List Entry) → NoReadOfWriter x → (1 ≤ length (values log) → WriteNo log (begun log 0) (length (values log))) → 1 ≤ length (values (x ∷ log)) → WriteNo (x ∷ log) (begun (x ∷ log) 0) (length (values (x ∷ log)))
@@ -156,5 +156,5 @@ last_more x log none last h =
 
 -- the last accepted write of all began at the place of the writer's last start
 pub last_write : (log : List Entry) → AllByRecursion NoReadOfWriter log → 1 ≤ length (values log) → WriteNo log (begun log 0) (length (values log))
-last_write [] none h = absurd (let r : ⊥ = omega arith in r)
+last_write [] none h = absurd (omega arith)
 last_write (x ∷ log) none h = last_more x log none.0 (λ l. last_write log none.1 l) h

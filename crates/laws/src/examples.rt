@@ -1,8 +1,8 @@
-// Concrete pasts, as a contract.
+//! Concrete pasts, as a contract.
 ghost use Rattle.std.specs.Prelude.{◌≡◌};
 ghost use Rattle.laws.specs.Examples.{Stand};
 
-// Each example is a past of a register and gives the answers expected of it. The number of the examples.
+/// Each example is a past of a register and gives the answers expected of it. The number of the examples.
 pub fn pasts_stand() -> u8
     ensures stand { Stand }
     ensures count { result ≡ 5 }

@@ -1,4 +1,4 @@
-// The laws of every past, and the call on which they stand.
+//! The laws of every past, and the call on which they stand.
 #![tactic(auto)]
 
 pub mod examples;

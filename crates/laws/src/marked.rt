@@ -1,8 +1,9 @@
-// The marked examples of the rules, as a contract.
+//! The marked examples of the rules, as a contract.
 ghost use Rattle.std.specs.Prelude.{◌≡◌};
 ghost use Rattle.laws.specs.Marked.{AllRight};
 
-// The rules open and decide as each example says. The number of the examples.
+/// The rules open and decide as each example says. The number of the examples.
+#[tactic(auto, using(crate::proofs::MarkedRight::all_right))]
 pub fn marked_stand() -> u8
     ensures right { AllRight }
     ensures count { result ≡ 13 }

@@ -1,4 +1,4 @@
-// The call that opens a register and runs a list of orders, with what the laws say of it.
+//! The call that opens a register and runs a list of orders, with what the laws say of it.
 ghost use Rattle.std.specs.Prelude.{◌≡◌, ◌≤◌, length, take, drop, MatchResult};
 ghost use Rattle.register.specs.Past.{world};
 ghost use Rattle.register.specs.Session.{NoSession};
@@ -13,7 +13,9 @@ use register::register::Register;
 use register::session::open_and_run;
 use wire::channel::Channel;
 
-// Opens a register over any channel and does the orders: they are a past from the opening, this past keeps the laws, and so does every other.
+/// Opens a register over any channel and does the orders: they are a past from the opening, this past keeps the laws, and so does every other.
+/// A fault leaves channel and answers as they were: the settings or the channel do not open, or the answers are fewer than the orders.
+#[tactic(auto, using(crate::proofs::Session::outcome_lawful))]
 pub fn perform<C: Channel>(
     s: Settings,
     c: &mut C,
@@ -27,6 +29,5 @@ pub fn perform<C: Channel>(
         (λ e. NoSession s (C.held c.old) (C.places c.old) (length orders.now) (length answers.old) e × (answers.new ≡ answers.old) × (c.new ≡ c.old)) }
     ensures laws { Laws }
 {
-    let register = open_and_run(s, c, orders, answers)?;
-    Ok(register)
+    open_and_run(s, c, orders, answers)
 }
