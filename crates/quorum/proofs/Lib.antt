@@ -4,4 +4,4 @@ pub mod Sets
 pub mod Agreements
 pub mod Decisions
 mod Searching
-mod Lowest
+pub mod Lowest

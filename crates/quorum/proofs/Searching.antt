@@ -31,7 +31,7 @@ agreed_by_mask s t v h extra m xs small e =
     }))
 
 -- a mask that does not agree does not
-pub not_by_mask : (s t v h extra m : ℕ) (xs : List Reading) → false ≡ mask_agrees s t v h extra xs m → mask_agrees s t v h extra xs m ≡ true → ⊥
+not_by_mask : (s t v h extra m : ℕ) (xs : List Reading) → false ≡ mask_agrees s t v h extra xs m → mask_agrees s t v h extra xs m ≡ true → ⊥
 not_by_mask s t v h extra m xs e f = both_ways (mask_agrees s t v h extra xs m) (sym e) f
 
 -- a mask below 256 that agrees
@@ -105,13 +105,13 @@ within_used s t v h extra m xs small fails e =
     within_from_digits 8 (used_at h xs) m small (λ i _. used_from_cover h m i 0 xs (omega arith))
 
 -- where neither all eight marks nor a smaller mask of marks in use agrees, no set does
-pub not_agreed : (s t v h extra : ℕ) (xs : List Reading) → false ≡ mask_agrees s t v h extra xs 255 → ((k : ℕ) → k < 255 → bit_and (used_at h xs) k ≡ k → mask_agrees s t v h extra xs k ≡ true → ⊥) → false ≡ agreed s t v h extra xs
+pub not_agreed : (s t v h extra : ℕ) (xs : List Reading) → false ≡ mask_agrees s t v h extra xs 255 → ((k : ℕ) → k < 255 → bit_and (used_at h xs) k ≡ k → mask_agrees s t v h extra xs k ≡ false) → false ≡ agreed s t v h extra xs
 not_agreed s t v h extra xs fails none =
     elim (cases_Bool (agreed s t v h extra xs)) [
       | inl e ↦
           let g = mask_agrees_from_agreed s t v h extra xs e in
           absurd (elim (cases_lt g.mask 255) [
-            | inl k ↦ none g.mask k (within_used s t v h extra g.mask xs g.small (sym fails) g.agrees) g.agrees
+            | inl k ↦ both_ways (mask_agrees s t v h extra xs g.mask) (none g.mask k (within_used s t v h extra g.mask xs g.small (sym fails) g.agrees)) g.agrees
             | inr k ↦
                 let is : g.mask ≡ 255 = omega (arith, g.small) in
                 not_by_mask s t v h extra 255 xs fails (ap (λ (m : ℕ). mask_agrees s t v h extra xs m) (sym is) ∙ g.agrees)

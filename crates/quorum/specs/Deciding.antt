@@ -1,5 +1,5 @@
 -- The rules that decide a read by the replies of its first round.
-use Rattle.std.specs.Prelude.{ℕ, zero, suc, ◌+◌, ◌-◌, ◌*◌, ◌/◌, ◌%◌, ◌^◌, max, Bool, true, false, cond, ◌&&◌, ◌||◌, List, [], ◌∷◌, length, fold, count_by, filter, Option, Some, None, ◌==◌, nat_eq, nat_le, nat_lt}
+use Rattle.std.specs.Prelude.{ℕ, zero, suc, ◌+◌, ◌-◌, ◌*◌, ◌/◌, ◌%◌, ◌^◌, max, Bool, true, false, cond, ◌&&◌, ◌||◌, List, [], ◌∷◌, length, fold, count_by, filter, ◌==◌, nat_eq, nat_le, nat_lt}
 use Rattle.std.specs.List.{best_of}
 use Rattle.quorum.specs.Rounds.{blank_reading}
 use Rattle.quorum.specs.declared.slip.Reading.{Reading}
@@ -59,15 +59,6 @@ lowest_of (x ∷ xs) = best_of (λ y z. nat_lt y.replica z.replica) x xs
 -- the reply of the lowest replica among those at version h; a blank one for none
 abbrev pub lowest_at : ℕ → List Reading → Reading
 lowest_at h xs = lowest_of (filter (λ s. nat_eq s.version h) xs)
-
--- the reply is of a lower replica than the one found, if any is
-abbrev pub is_lower : Option Reading → Reading → Bool
-is_lower None y = true
-is_lower (Some x) y = nat_lt y.replica x.replica
-
--- the same as a search from the first reply on finds it; none for none
-abbrev pub lowest_in : ℕ → List Reading → Option Reading
-lowest_in h xs = fold (λ a y. cond (nat_eq y.version h && is_lower a y) (Some y) a) None xs
 
 -- these are at least s - a * t replies, all at version h, with at least a + extra marks in common
 abbrev pub agree : ℕ → ℕ → ℕ → ℕ → ℕ → List Reading → Bool

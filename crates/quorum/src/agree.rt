@@ -57,6 +57,7 @@ impl Rule {
     // Is there, for some a from 1 to groups + 1, a set of replicas - a * tolerated replies, all at
     // version h, with a + extra marks in common?
     // Stays: the product's rules name this form: a search over masks, which are u8.
+    #[tactic(auto, using(crate::proofs::Searching::agreed_by_mask, crate::proofs::Searching::not_agreed))]
     pub(crate) fn some_set_agrees(self, slips: &[Reading], h: u32, extra: u32) -> bool
         ensures { result ≡ agreed self.replicas self.tolerated self.groups h extra slips.now }
     {

@@ -2,7 +2,7 @@
 ghost use Rattle.std.specs.Prelude.{◌≡◌};
 ghost use Rattle.quorum.specs.Deciding.{verdict_at, decided_at, decided};
 
-use crate::highest::{highest, lowest_in, notes_at};
+use crate::highest::{highest, lowest_at, notes_at};
 use crate::rule::Rule;
 use crate::slip::Reading;
 
@@ -51,7 +51,7 @@ impl Rule {
     fn decide_at(self, slips: &[Reading], h: u32) -> Decided
         ensures { result ≡ decided_at self.replicas self.tolerated self.groups h slips.now }
     {
-        let shown = lowest_in(slips, h).unwrap_or_default();
+        let shown = lowest_at(slips, h).unwrap_or_default();
         let verdict = self.verdict_at(slips, h);
         Decided {
             version: h,

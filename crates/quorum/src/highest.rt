@@ -1,6 +1,7 @@
 //! What the replies of a first round say of the highest version among them.
-ghost use Rattle.std.specs.Prelude.{◌≡◌};
-ghost use Rattle.quorum.specs.Deciding.{highest_by, notes_at, lowest_in};
+ghost use Rattle.std.specs.Prelude.{◌≡◌, unwrap_or};
+ghost use Rattle.quorum.specs.Rounds.{blank_reading};
+ghost use Rattle.quorum.specs.Deciding.{highest_by, notes_at, lowest_at};
 
 use crate::slip::{Reading, VersionedSlip};
 
@@ -31,8 +32,8 @@ pub(crate) fn notes_at(slips: &[Reading], h: u32) -> usize
 }
 
 // The reply of the lowest replica among those at version h, the first of equals.
-pub(crate) fn lowest_in(slips: &[Reading], h: u32) -> Option<Reading>
-    ensures { result ≡ lowest_in h slips.now }
+pub(crate) fn lowest_at(slips: &[Reading], h: u32) -> Option<Reading>
+    ensures { unwrap_or result blank_reading ≡ lowest_at h slips.now }
 {
     let mut lowest: Option<Reading> = None;
     for s in slips {

@@ -13,6 +13,13 @@ pub struct Tally<'a, T: Slip> {
     ghost fits: { len ≤ length places.now },
 }
 
+// Is one of the slips from the replica?
+fn is_from<T: Slip>(slips: &[T], replica: u8) -> bool
+    ensures { result ≡ from T.sent_by replica slips.now }
+{
+    slips.iter().any(|s| s.sender() == replica)
+}
+
 impl<'a, T: Slip + Drop> Tally<'a, T> {
     /// Goes on with the first len places; a len above the number of places is lowered to it.
     pub fn over(places: &'a mut [T], len: usize) -> Tally<'a, T>
@@ -35,9 +42,7 @@ impl<'a, T: Slip + Drop> Tally<'a, T> {
     pub fn has(&self, replica: u8) -> bool
         ensures { result ≡ from T.Slip.sent_by replica (take self.now.len self.now.places.now) }
     {
-        self.places[..self.len]
-            .iter()
-            .any(|s| s.sender() == replica)
+        is_from(&self.places[..self.len], replica)
     }
 
     // Is the slip's replica not counted yet, and a place left?

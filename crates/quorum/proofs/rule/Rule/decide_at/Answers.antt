@@ -7,4 +7,4 @@ use Rattle.quorum.proofs.rule.Rule.decide_at.Goals as goal
 pub returns : goal.returns
 unfolding decided_at
 returns c =
-    let e = lowest_found c.args.h c.args.slips.now _ _ _ c.lowest_in.ensures c.unwrap_or_default-shown.ensures (λ y b. search rules) in search rules
+    let e = lowest_found c.lowest_at.result _ _ _ c.lowest_at.ensures c.unwrap_or_default-shown.ensures (λ y b. search rules) in search rules

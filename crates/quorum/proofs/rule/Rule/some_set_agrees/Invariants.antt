@@ -1,9 +1,9 @@
 -- No mask so far of marks in use agrees.
-use Rattle.std.proofs.Common.{◌≡◌, ℕ, ◌<◌, true}
+use Rattle.std.proofs.Common.{◌≡◌, ℕ, ◌<◌, false}
 use lib.Bits.{bit_and}
 use Rattle.quorum.specs.Masks.{mask_agrees}
 use Rattle.quorum.proofs.rule.Rule.some_set_agrees.Given as goal
 
 abbrev pub invariant-loop-mask : goal.invariant-loop-mask
 invariant-loop-mask l =
-    (k : ℕ) → k < l.mask → bit_and l.used k ≡ k → mask_agrees l.self.replicas l.self.tolerated l.self.groups l.h l.extra l.slips k ≡ true → ⊥
+    (k : ℕ) → k < l.mask → bit_and l.used k ≡ k → mask_agrees l.self.replicas l.self.tolerated l.self.groups l.h l.extra l.slips k ≡ false
