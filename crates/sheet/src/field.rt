@@ -37,7 +37,7 @@ impl<'a> Cursor<'a> {
         requires early { self.old.line < 2 ^ 31 }
         ensures { Stepped SmallValue (value_words separator) self.old.rest.now self.old.line self.new.rest.now self.new.line result }
     {
-        self.field(|word, line| value_in(word, line), separator)
+        self.field(value_in, separator)
     }
 
     // This word and no other.
