@@ -1,12 +1,14 @@
 -- One order more is filled.
-use Rattle.std.proofs.Common.{◌≡◌, ℕ, ◌+◌, ◌<◌, List, [], ◌∷◌, ◌++◌, length, take, drop, set, sym, refl, ap, ◌∙◌, subst, arith}
+use Rattle.std.proofs.Common.{◌≡◌, ℕ, ◌+◌, ◌<◌, ◌≤◌, List, [], ◌∷◌, ◌++◌, length, take, drop, set, sym, refl, ap, ◌∙◌, subst, arith}
 use Rattle.std.specs.List.{AllByRecursion}
-use Rattle.std.proofs.lemmas.List.{take_more_set, flat_map_more, drop-set-lt, drop-drop}
+use Rattle.std.proofs.lemmas.List.{take_more_set, flat_map_more, drop-set-lt, drop-drop, take-append-le, drop-append-le, take-append-drop, length-take-le}
 use Rattle.std.proofs.ByRecursion.{All-push}
 use Rattle.orders.specs.declared.order.Order.{Order}
 use Rattle.orders.specs.declared.order.Order.TheVariants.{Write, Read, Tell, Carry, ReplicaOut, ClientOut}
-use Rattle.sheet.specs.Form.{Placed, lines_in, lines_of, order_words, FineOrder}
-use Rattle.sheet.specs.Steps.{Took, Filled}
+use Rattle.sheet.specs.Shown.{Shown}
+use Rattle.sheet.specs.Faults.{Fault}
+use Rattle.sheet.specs.Form.{Placed, bytes_of, lines_in, lines_of, order_words, FineOrder}
+use Rattle.sheet.specs.Steps.{Took, Filled, Missed, Stopped}
 use Rattle.sheet.proofs.Walks.{both}
 
 pub order_line : (o : Order) → lines_in (order_words o) ≡ 1
@@ -30,4 +32,23 @@ filled_more i rest line before orders a b k l o h g fine t =
       took = subst P (sym (ap lines_of e ∙ lines_push (take i orders) o)) (both g.took t);
       lines = omega (arith, g.lines, t.lines, order_line o);
       kept = drop-set-lt (i + 1) orders i o (omega arith) ∙ sym (drop-drop 1 i orders) ∙ ap (drop 1) g.kept ∙ drop-drop 1 i before;
+    }
+
+-- the line of the next order fails, where the first places were handed in as a part
+pub stopped : (i count : ℕ) (rest : List ℕ) (line : ℕ) (before part : List Order) (a : List ℕ) (k : ℕ) (f : Shown) → i < count → count ≤ length before → length part ≡ count → Filled i rest line (take count before) part a k → Missed FineOrder order_words a k f → Stopped count rest line before (part ++ drop count before) f
+stopped i count rest line before part a k f due room n g m =
+    let e : take i (part ++ drop count before) ≡ take i part = take-append-le i part (drop count before) (omega arith) in
+    let E : List Order → Type 0 = λ os. AllByRecursion FineOrder os in
+    let B : List Order → Type 0 = λ os. rest ≡ bytes_of (lines_of os) ++ a in
+    let L : ℕ → Type 0 = λ l. Fault (order_words m.like) a l f in
+    record {
+      filled = i;
+      left = a;
+      order = m.like;
+      due = due;
+      each = subst E (sym e) g.each;
+      kept = drop-append-le i part (drop count before) (omega arith) ∙ ap (λ os. os ++ drop count before) g.kept ∙ sym (drop-append-le i (take count before) (drop count before) (omega (arith, length-take-le count before room))) ∙ ap (drop i) (take-append-drop count before);
+      agrees = subst B (sym e) g.took.bytes;
+      fine = m.fine;
+      fault = subst L g.lines m.fault;
     }

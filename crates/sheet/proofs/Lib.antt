@@ -1,8 +1,8 @@
 pub mod Numbers
-pub mod Parting
 pub mod Walks
 pub mod Counting
-pub mod Names
+pub mod Fields
+pub mod OrderLines
 pub mod Filling
 pub mod Heads
 pub mod Outcomes

@@ -10,19 +10,6 @@ use Rattle.sheet.specs.Steps.{HeadFault, spoiled, packed, HeadTook, Filled, Stop
 use Rattle.sheet.specs.Readings.{Given, Refused}
 use Rattle.sheet.proofs.Walks.{both, bytes_append}
 
--- at the start of the sheet
-pub started_fault : (places : ℕ) (a sheet : List ℕ) (k : ℕ) (f : Shown) → a ≡ sheet → k ≡ 1 → HeadFault places a k f → HeadFault places sheet 1 f
-started_fault places a sheet k f e l h =
-    let P : List ℕ → Type 0 = λ b. HeadFault places b k f in
-    let Q : ℕ → Type 0 = λ n. HeadFault places sheet n f in
-    subst Q l (subst P e h)
-
-pub started_took : (places : ℕ) (g : Reading) (a sheet : List ℕ) (k : ℕ) (b : List ℕ) (m : ℕ) → a ≡ sheet → k ≡ 1 → HeadTook places g a k b m → HeadTook places g sheet 1 b m
-started_took places g a sheet k b m e l h =
-    let P : List ℕ → Type 0 = λ x. HeadTook places g x k b m in
-    let Q : ℕ → Type 0 = λ n. HeadTook places g sheet n b m in
-    subst Q l (subst P e h)
-
 pub refused_head : (sheet : List ℕ) (orders : List Order) (f : Shown) → HeadFault (length orders) sheet 1 f → Refused sheet orders orders f
 refused_head sheet orders f (spoiled s n small room h) =
     record { filled = 0; room = omega arith; fault = in_head (record { settings = s; count = n; small = small; few = room.0; room = room.1; fault = h; none = refl }); kept = refl }

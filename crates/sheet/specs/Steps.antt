@@ -1,5 +1,6 @@
 -- What one step of the reader does: it takes words, or finds a fault at one of them.
-use Rattle.std.specs.Prelude.{◌≡◌, ℕ, ◌+◌, ◌<◌, ◌≤◌, true, false, cond, List, [], ◌∷◌, ◌++◌, take, drop, ℤ, decimal, Result, MatchResult, ◌==◌, ◌≢◌}
+use Rattle.std.specs.Borrow.{Bor}
+use Rattle.std.specs.Prelude.{Ok, Err, length, ◌≡◌, ℕ, ◌+◌, ◌<◌, ◌≤◌, true, false, cond, List, [], ◌∷◌, ◌++◌, take, drop, ℤ, decimal, Result, MatchResult, ◌==◌, ◌≢◌}
 use Rattle.std.specs.List.{AllByRecursion}
 use Rattle.orders.specs.declared.order.Order.{Order}
 use Rattle.orders.specs.declared.settings.Settings.{Settings}
@@ -50,6 +51,22 @@ pub record Missed {A : Type 0} (Fine : A → Type 0) (words : A → List Placed)
 -- a step that reads a value: its words are taken, or the bytes fail at the words of some admitted value
 abbrev pub Stepped : {A : Type 0} → (A → Type 0) → (A → List Placed) → List ℕ → ℕ → List ℕ → ℕ → Result A SheetFault → Type 0
 Stepped Fine words rest line rest' line' r = MatchResult r (λ a. Fine a × Took (words a) rest line rest' line') (λ f. Missed Fine words rest line (shown f))
+
+-- at a word that is judged so, the bytes end, or it is refused, or its separator does not stand behind it
+pub data Unfielded {A : Type 0} (Judged : Bor (List ℕ) → Result A SheetFault → Type 0) (separator : ℕ) (rest : List ℕ) (line : ℕ) (f : SheetFault) : Type 0 where
+  missing : rest ≡ [] → shown f ≡ shows 33 line [] → Unfielded Judged separator rest line f
+  refused : (word : Bor (List ℕ)) → word.now ≡ word_of rest → 0 < length rest → Judged word (Err f) → Unfielded Judged separator rest line f
+  unclosed : (word : Bor (List ℕ)) (a : A) → Judged word (Ok a) → Unclosed word.now separator rest line (shown f) → Unfielded Judged separator rest line f
+
+-- a word that is judged so and its separator are taken
+pub record FieldTook {A : Type 0} (Judged : Bor (List ℕ) → Result A SheetFault → Type 0) (separator : ℕ) (rest : List ℕ) (line : ℕ) (rest' : List ℕ) (line' : ℕ) (a : A) : Type 0 where
+  pub word : Bor (List ℕ)
+  pub judged : Judged word (Ok a)
+  pub closed : Closed word.now separator rest line rest' line'
+
+-- a step that judges a word and takes it with its separator
+abbrev pub Fielded : {A : Type 0} → (Bor (List ℕ) → Result A SheetFault → Type 0) → ℕ → List ℕ → ℕ → List ℕ → ℕ → Result A SheetFault → Type 0
+Fielded Judged separator rest line rest' line' r = MatchResult r (λ a. FieldTook Judged separator rest line rest' line' a) (λ f. Unfielded Judged separator rest line f)
 
 -- behind these words a good number of orders stands, and there are fewer places
 pub record Overfull (ps : List Placed) (places : ℕ) (rest : List ℕ) (line : ℕ) (f : Shown) : Type 0 where

@@ -1,6 +1,6 @@
 -- Words: how far one runs, and when it is a number.
-use Rattle.std.specs.Prelude.{ℕ, ◌+◌, ◌-◌, ◌*◌, Bool, true, false, cond, not, ◌&&◌, List, [], ◌∷◌, ◌++◌, length, take, drop, fold, ◌==◌, nat_le, nat_lt, slice_index}
-use Rattle.std.specs.List.{prefix_len}
+use Rattle.std.specs.Prelude.{ℕ, ◌+◌, ◌-◌, ◌*◌, Bool, false, cond, not, ◌&&◌, List, [], ◌∷◌, ◌++◌, length, take, drop, fold, ◌==◌, nat_le, nat_lt, slice_index}
+use Rattle.std.specs.List.{prefix_len, list_all}
 use Rattle.sheet.specs.declared.word.Word.{Word}
 use Rattle.sheet.specs.declared.word.Word.TheVariants.{Digits, Negative, Name}
 
@@ -22,8 +22,7 @@ is_digit b = nat_le 48 b && nat_le b 57
 
 -- nothing but digits
 abbrev pub all_digits : List ℕ → Bool
-all_digits [] = true
-all_digits (b ∷ bs) = is_digit b && all_digits bs
+all_digits bs = list_all is_digit bs
 
 -- decimal digits without a leading zero
 abbrev pub numeral : List ℕ → Bool

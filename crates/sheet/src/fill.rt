@@ -1,4 +1,4 @@
-// The lines of the orders, each filled into its place.
+//! The lines of the orders, each filled into its place.
 ghost use Rattle.std.specs.Prelude.{◌^◌, ◌<◌, ◌≤◌, length, MatchResult};
 ghost use Rattle.sheet.specs.Shown.{shown};
 ghost use Rattle.sheet.specs.Steps.{Filled, Stopped};
@@ -14,9 +14,8 @@ impl<'a> Cursor<'a> {
         requires room { count ≤ length orders.old }
         ensures { MatchResult result (λ _. Filled count self.old.rest.now self.old.line orders.old orders.new self.new.rest.now self.new.line) (λ f. Stopped count self.old.rest.now self.old.line orders.old orders.new (shown f)) }
     {
-        for i in 0..count {
-            let o = self.order()?;
-            orders[i] = o;
+        for place in &mut orders[..count] {
+            *place = self.order()?;
         }
         Ok(())
     }

@@ -1,7 +1,6 @@
-// The first three lines of a sheet: the title, the settings and the number of orders.
-ghost use Rattle.std.specs.Prelude.{◌≡◌, ◌^◌, ◌<◌, ◌≤◌, [], length, MatchResult};
+//! The first three lines of a sheet: the title, the settings and the number of orders.
+ghost use Rattle.std.specs.Prelude.{◌≡◌, ◌^◌, ◌<◌, MatchResult};
 ghost use Rattle.sheet.specs.Shown.{shown};
-ghost use Rattle.sheet.specs.Words.{word_of};
 ghost use Rattle.sheet.specs.Form.{title_words, settings_words, orders_words, SmallSettings};
 ghost use Rattle.sheet.specs.Steps.{Stepped, Counted, HeadTook, HeadFault};
 
@@ -23,57 +22,33 @@ impl<'a> Cursor<'a> {
         Ok(Reading { settings, count })
     }
 
-    pub(crate) fn title(&mut self) -> Result<(), SheetFault<'a>>
+    fn title(&mut self) -> Result<(), SheetFault<'a>>
         requires early { self.old.line < 2 ^ 30 }
         ensures { Stepped (λ _. Unit {0}) (λ _. title_words) self.old.rest.now self.old.line self.new.rest.now self.new.line result }
     {
-        self.fixed(b"settings", 32)?;
-        self.fixed(b"5", 10)
+        self.fixed(b"settings", b' ')?;
+        self.fixed(b"5", b'\n')
     }
 
-    pub(crate) fn settings(&mut self) -> Result<Settings, SheetFault<'a>>
+    fn settings(&mut self) -> Result<Settings, SheetFault<'a>>
         requires early { self.old.line < 2 ^ 30 }
         ensures { Stepped SmallSettings settings_words self.old.rest.now self.old.line self.new.rest.now self.new.line result }
     {
-        let replicas = self.number(NUMBER_MAX, 32)?;
-        let tolerated = self.number(NUMBER_MAX, 32)?;
-        let groups = self.number(NUMBER_MAX, 32)?;
-        let readers = self.number(NUMBER_MAX, 32)?;
-        let initial = self.value(10)?;
         Ok(Settings {
-            replicas,
-            tolerated,
-            groups,
-            readers,
-            initial,
+            replicas: self.number(NUMBER_MAX, b' ')?,
+            tolerated: self.number(NUMBER_MAX, b' ')?,
+            groups: self.number(NUMBER_MAX, b' ')?,
+            readers: self.number(NUMBER_MAX, b' ')?,
+            initial: self.value(b'\n')?,
         })
     }
 
     // `orders` and their number.
-    pub(crate) fn count(&mut self, places: usize) -> Result<usize, SheetFault<'a>>
+    fn count(&mut self, places: usize) -> Result<usize, SheetFault<'a>>
         requires early { self.old.line < 2 ^ 30 }
         ensures { Counted orders_words places self.old.rest.now self.old.line self.new.rest.now self.new.line result }
     {
-        self.fixed(b"orders", 32)?;
-        self.count_next(places)
-    }
-
-    fn count_next(&mut self, places: usize) -> Result<usize, SheetFault<'a>>
-        requires early { self.old.line < 2 ^ 31 }
-        ensures { Counted [] places self.old.rest.now self.old.line self.new.rest.now self.new.line result }
-    {
-        let word = self.word()?;
-        self.count_at(word, places)
-    }
-
-    fn count_at(&mut self, word: &'a [u8], places: usize) -> Result<usize, SheetFault<'a>>
-        requires early { self.old.line < 2 ^ 31 }
-        requires next { word.now ≡ word_of self.old.rest.now }
-        requires some { 0 < length self.old.rest.now }
-        ensures { Counted [] places self.old.rest.now self.old.line self.new.rest.now self.new.line result }
-    {
-        let n = count_in(word, places, self.line)?;
-        self.close(word, 10)?;
-        Ok(n)
+        self.fixed(b"orders", b' ')?;
+        self.field(|word, line| count_in(word, places, line), b'\n')
     }
 }

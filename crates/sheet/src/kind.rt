@@ -1,4 +1,4 @@
-// The kinds of orders, by the word at the start of a line.
+//! The kinds of orders, by the word at the start of a line.
 ghost use Rattle.std.specs.Prelude.{◌≡◌, MatchResult};
 ghost use Rattle.sheet.specs.Shown.{shown};
 ghost use Rattle.sheet.specs.Form.{kind};
@@ -22,12 +22,8 @@ impl Kind {
         ensures { result ≡ separator_for self }
     {
         match self {
-            Kind::Write => 32,
-            Kind::Read => 32,
-            Kind::Tell => 32,
-            Kind::Carry => 10,
-            Kind::ReplicaOut => 32,
-            Kind::ClientOut => 32,
+            Kind::Carry => b'\n',
+            Kind::Write | Kind::Read | Kind::Tell | Kind::ReplicaOut | Kind::ClientOut => b' ',
         }
     }
 }
@@ -35,10 +31,11 @@ impl Kind {
 fn kind_of(word: &[u8]) -> Option<Kind>
     ensures { result ≡ kind_at word.now }
 {
-    if word.len() != 1 {
+    let [letter] = word else {
         return None;
-    }
-    match char::from(word[0]) {
+    };
+    // Stays: the product's rules name this form: a match over the char literals of the six kinds.
+    match char::from(*letter) {
         'w' => Some(Kind::Write),
         'r' => Some(Kind::Read),
         't' => Some(Kind::Tell),
@@ -52,8 +49,5 @@ fn kind_of(word: &[u8]) -> Option<Kind>
 pub(crate) fn kind_in<'a>(word: &'a [u8], line: u32) -> Result<Kind, SheetFault<'a>>
     ensures { MatchResult result (λ k. word.now ≡ word_for k) (λ f. Unfit kind word.now line (shown f)) }
 {
-    match kind_of(word) {
-        Some(k) => Ok(k),
-        None => Err(SheetFault::Form { line, word }),
-    }
+    kind_of(word).ok_or(SheetFault::Form { line, word })
 }

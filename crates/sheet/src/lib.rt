@@ -1,4 +1,4 @@
-// Sheets and listings: orders are read from bytes, and answers are written to bytes.
+//! Sheets and listings: orders are read from bytes, and answers are written to bytes.
 #![tactic(auto)]
 
 mod cursor;

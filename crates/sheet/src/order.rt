@@ -1,6 +1,5 @@
-// The line of one order.
-ghost use Rattle.std.specs.Prelude.{◌≡◌, ◌^◌, ◌<◌, length};
-ghost use Rattle.sheet.specs.Words.{word_of};
+//! The line of one order.
+ghost use Rattle.std.specs.Prelude.{◌≡◌, ◌^◌, ◌<◌};
 ghost use Rattle.sheet.specs.Form.{order_words, FineOrder};
 ghost use Rattle.sheet.specs.Kinds.{kind_words, behind_kind, OfKind};
 ghost use Rattle.sheet.specs.Steps.{Stepped};
@@ -16,56 +15,33 @@ impl<'a> Cursor<'a> {
         requires early { self.old.line < 2 ^ 30 }
         ensures { Stepped FineOrder order_words self.old.rest.now self.old.line self.new.rest.now self.new.line result }
     {
-        let k = self.kind()?;
-        self.order_of(k)
+        let kind = self.kind()?;
+        self.order_of(kind)
     }
 
+    // Stays: no call of `field`, since the separator depends on what the word is.
     fn kind(&mut self) -> Result<Kind, SheetFault<'a>>
         requires early { self.old.line < 2 ^ 31 }
         ensures { Stepped (λ _. Unit {0}) kind_words self.old.rest.now self.old.line self.new.rest.now self.new.line result }
     {
         let word = self.word()?;
-        self.kind_at(word)
-    }
-
-    fn kind_at(&mut self, word: &'a [u8]) -> Result<Kind, SheetFault<'a>>
-        requires early { self.old.line < 2 ^ 31 }
-        requires next { word.now ≡ word_of self.old.rest.now }
-        requires some { 0 < length self.old.rest.now }
-        ensures { Stepped (λ _. Unit {0}) kind_words self.old.rest.now self.old.line self.new.rest.now self.new.line result }
-    {
-        let k = kind_in(word, self.line)?;
-        self.close(word, k.separator())?;
-        Ok(k)
+        let kind = kind_in(word, self.line)?;
+        self.close(word, kind.separator())?;
+        Ok(kind)
     }
 
     // What the order is about.
-    fn order_of(&mut self, k: Kind) -> Result<Order, SheetFault<'a>>
+    fn order_of(&mut self, kind: Kind) -> Result<Order, SheetFault<'a>>
         requires early { self.old.line < 2 ^ 31 }
-        ensures { Stepped (OfKind k) behind_kind self.old.rest.now self.old.line self.new.rest.now self.new.line result }
+        ensures { Stepped (OfKind kind) behind_kind self.old.rest.now self.old.line self.new.rest.now self.new.line result }
     {
-        match k {
-            Kind::Write => {
-                let z = self.value(10)?;
-                Ok(Order::Write(z))
-            }
-            Kind::Read => {
-                let n = self.number(NUMBER_MAX, 10)?;
-                Ok(Order::Read(n))
-            }
-            Kind::Tell => {
-                let n = self.number(NUMBER_MAX, 10)?;
-                Ok(Order::Tell(n))
-            }
+        match kind {
+            Kind::Write => self.value(b'\n').map(Order::Write),
+            Kind::Read => self.number(NUMBER_MAX, b'\n').map(Order::Read),
+            Kind::Tell => self.number(NUMBER_MAX, b'\n').map(Order::Tell),
             Kind::Carry => Ok(Order::Carry),
-            Kind::ReplicaOut => {
-                let n = self.number(NUMBER_MAX, 10)?;
-                Ok(Order::ReplicaOut(n))
-            }
-            Kind::ClientOut => {
-                let n = self.number(NUMBER_MAX, 10)?;
-                Ok(Order::ClientOut(n))
-            }
+            Kind::ReplicaOut => self.number(NUMBER_MAX, b'\n').map(Order::ReplicaOut),
+            Kind::ClientOut => self.number(NUMBER_MAX, b'\n').map(Order::ClientOut),
         }
     }
 }

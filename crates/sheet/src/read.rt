@@ -1,4 +1,4 @@
-// The sheet reader: settings are handed over, and orders are filled into the places handed in.
+//! The sheet reader: settings are handed over, and orders are filled into the places handed in.
 ghost use Rattle.std.specs.Prelude.{◌≡◌, ◌≤◌, List, length};
 ghost use Rattle.sheet.specs.Shown.{Shown};
 ghost use Rattle.sheet.specs.Faults.{FirstFault};
@@ -10,28 +10,25 @@ use crate::fault::SheetFault;
 use orders::order::Order;
 use orders::settings::Settings;
 
-// What a sheet gives: its settings, and how many orders were filled.
+/// What a sheet gives: its settings, and how many orders were filled.
 #[derive(Clone, Copy)]
 pub struct Reading {
     pub settings: Settings,
     pub count: usize,
 }
 
-fn read_through<'a>(sheet: &'a [u8], orders: &mut [Order]) -> Result<Reading, SheetFault<'a>>
-    ensures { Outcome sheet.now orders.old orders.new result }
-{
-    let mut cursor = Cursor::start(sheet);
-    let reading = cursor.head(orders.len())?;
-    cursor.fill(orders, reading.count)?;
-    cursor.finish()?;
-    Ok(reading)
-}
-
-// Reads a sheet. Orders before a fault are filled, and settings are handed over on success only.
+/// Reads a sheet. Orders before a fault are filled, and settings are handed over on success only.
 pub fn read<'a>(sheet: &'a [u8], orders: &mut [Order]) -> Result<Reading, SheetFault<'a>>
     ensures outcome { Outcome sheet.now orders.old orders.new result }
     ensures exact { (s : Settings) (os : List Order) → Writable s os → length os ≤ length orders.old → sheet.now ≡ sheet_of s os → GivenAs s os orders.new result }
     ensures only { (f : Shown) (filled : List Order) → FirstFault sheet.now (length orders.old) f filled → RefusedAs f filled orders.new result }
 {
-    read_through(sheet, orders)
+    let mut cursor = Cursor {
+        rest: sheet,
+        line: 1,
+    };
+    let reading = cursor.head(orders.len())?;
+    cursor.fill(orders, reading.count)?;
+    cursor.finish()?;
+    Ok(reading)
 }

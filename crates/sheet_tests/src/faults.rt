@@ -1,4 +1,4 @@
-// Sheets that are refused.
+//! Sheets that are refused.
 use orders::order::Order;
 use sheet::read::read;
 use std::test::Fail;
@@ -8,18 +8,10 @@ fn refused(sheet: &[u8], number: u32, line: u32, word: &[u8]) -> Result<(), Fail
     let mut orders = [Order::Carry; 2];
     match read(sheet, &mut orders) {
         Ok(_) => Err(Fail::new("the sheet was read")),
-        Err(fault) => {
-            if fault.number() != number {
-                return Err(Fail::new("another number"));
-            }
-            if fault.line() != line {
-                return Err(Fail::new("another line"));
-            }
-            if fault.word() != word {
-                return Err(Fail::new("another word"));
-            }
+        Err(fault) if (fault.number(), fault.line(), fault.word()) == (number, line, word) => {
             Ok(())
         }
+        Err(_) => Err(Fail::new("another fault")),
     }
 }
 

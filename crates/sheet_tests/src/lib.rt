@@ -1,4 +1,4 @@
-// Tests of the sheet reader and of the listing writer: good ones, and every fault with its line and word.
+//! Tests of the sheet reader and of the listing writer: good ones, and every fault with its line and word.
 #![tactic(auto)]
 
 #[cfg(test)]

@@ -1,4 +1,4 @@
-// Listings that fit, and one that is cut short.
+//! Listings that fit, and one that is cut short.
 use orders::answer::{Answer, Ending};
 use sheet::listing::{Position, write_listing};
 use std::test::Fail;

@@ -1,4 +1,4 @@
-// Sheets that are read.
+//! Sheets that are read.
 use orders::order::Order;
 use sheet::read::read;
 use std::test::Fail;
@@ -13,25 +13,14 @@ fn every_kind(rt: HostRuntime) -> Result<(), Fail> {
             assert_eq!(rt; reading.settings.replicas, 5);
             assert_eq!(rt; reading.settings.readers, 3);
             assert_eq!(rt; reading.settings.initial, -99_999_999);
-            assert!(rt; matches(orders[0], -7, 0));
-            assert!(rt; matches(orders[2], 0, 4));
-            assert!(rt; matches(orders[3], 0, 99_999_999));
-            assert!(rt; matches(orders[4], 0, 3));
-            assert!(rt; matches(orders[5], 0, 64));
+            assert_eq!(rt; orders[0], Order::Write(-7));
+            assert_eq!(rt; orders[2], Order::ReplicaOut(4));
+            assert_eq!(rt; orders[3], Order::ClientOut(99_999_999));
+            assert_eq!(rt; orders[4], Order::Read(3));
+            assert_eq!(rt; orders[5], Order::Tell(64));
             Ok(())
         }
         Err(_) => Err(Fail::new("the sheet was refused")),
-    }
-}
-
-fn matches(order: Order, value: i32, number: u32) -> bool {
-    match order {
-        Order::Write(z) => z == value,
-        Order::Read(n) => n == number,
-        Order::Tell(n) => n == number,
-        Order::ReplicaOut(n) => n == number,
-        Order::ClientOut(n) => n == number,
-        _ => false,
     }
 }
 
@@ -43,9 +32,9 @@ fn filled_before_a_fault(rt: HostRuntime) -> Result<(), Fail> {
         Ok(_) => Err(Fail::new("the sheet was read")),
         Err(fault) => {
             assert_eq!(rt; fault.line(), 6);
-            assert!(rt; matches(orders[0], 7, 0));
-            assert!(rt; matches(orders[1], 0, 4));
-            assert!(rt; !matches(orders[2], 0, 0));
+            assert_eq!(rt; orders[0], Order::Write(7));
+            assert_eq!(rt; orders[1], Order::ReplicaOut(4));
+            assert_eq!(rt; orders[2], Order::Carry);
             Ok(())
         }
     }

@@ -1,7 +1,12 @@
 -- What the search leaves to show of `number_in`.
-use Rattle.sheet.proofs.Numbers.{counts}
+use Rattle.std.proofs.Common.{arith}
+use Rattle.std.proofs.lemmas.Result.{MatchResult-weaker}
+use Rattle.sheet.specs.Steps.{unbounded}
+use Rattle.sheet.proofs.Numbers.{counts, excess}
 use Rattle.sheet.proofs.number.number_in.Goals as goal
 
-pub returns : goal.returns
-returns c =
-    counts c.in-Digits.digits.now c.args.word.now c.args.limit c.capped_amount-n.result c.requires c.in-Digits.ensures c.capped_amount-n.ensures c.if-n-limit.false
+pub returns-in-Digits : goal.returns-in-Digits
+returns-in-Digits c =
+    let d = c.in-Digits.digits.now in
+    MatchResult-weaker c.bounded.result c.bounded.ensures (λ n h. counts d c.args.word.now c.args.limit n (omega arith) c.in-Digits.ensures h.0 h.1)
+    (λ f h. unbounded (excess d c.args.word.now c.args.limit c.in-Digits.ensures h.0) h.1)

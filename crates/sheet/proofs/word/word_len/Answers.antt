@@ -1,13 +1,19 @@
 -- What the search leaves to show of `word_len`.
-use Rattle.std.proofs.Common.{rules}
-use Rattle.std.proofs.lemmas.List.Sums.{prefix_len-drop_yes, prefix_len-drop_no, prefix_len-drop_all}
+use Rattle.std.proofs.Common.{ℕ, Bool, ◌||◌, eqb, refl, arith, rules, tests}
+use Rattle.std.specs.List.{prefix_len}
+use Rattle.std.proofs.lemmas.Bool.Decides.{nat_tests}
+use Rattle.std.proofs.lemmas.Iterator.{YieldsList-from_slice}
+use Rattle.std.proofs.lemmas.Iterator.Search.{position_from_yields_List}
+use Rattle.std.proofs.lemmas.List.Sums.{prefix_len-le-length}
+use Rattle.std.proofs.lemmas.List.Recursion.{is_position_or_len}
+use Rattle.sheet.specs.Words.{in_word}
 use Rattle.sheet.proofs.word.word_len.Goals as goal
 
-pub returns-then-b-eq32 : goal.returns-then-b-eq32
-returns-then-b-eq32 c = search (rules, prefix_len-drop_no)
-
-pub loop-b-preserved : goal.loop-b-preserved
-loop-b-preserved c = search (rules, prefix_len-drop_yes)
+abbrev ends : ℕ → Bool
+ends b = eqb b 32 || eqb b 10
 
 pub returns : goal.returns
-returns c = search (rules, prefix_len-drop_all)
+returns c =
+    let found = position_from_yields_List ends _ _ c.position.result c.position.ensures.ran (YieldsList-from_slice c.args.rest.now cc) (λ x b q k. search (rules, tests)) in
+    let same = is_position_or_len (prefix_len in_word) ends refl (λ x xs. grind (arith, nat_tests)) c.args.rest.now in
+    grind (arith, nat_tests, prefix_len-le-length)

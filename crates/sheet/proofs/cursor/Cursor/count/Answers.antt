@@ -1,10 +1,11 @@
 -- What the search leaves to show of `Cursor::count`.
-use Rattle.std.proofs.Common.{[], arith}
+use Rattle.std.proofs.Common.{[], arith, rules}
 use Rattle.std.proofs.lemmas.Result.{err_from_is_err_and, MatchResult-weaker}
 use Rattle.sheet.specs.Form.{number_words, orders_max, orders_words}
 use Rattle.sheet.specs.Shown.{shown}
 use Rattle.sheet.specs.Steps.{wrong}
 use Rattle.sheet.proofs.Counting.{miscounted_after}
+use Rattle.sheet.proofs.Fields.{counted}
 use Rattle.sheet.proofs.Walks.{longer, both}
 use Rattle.sheet.proofs.cursor.Cursor.count.Goals as goal
 
@@ -17,5 +18,6 @@ returns-in_err-fixed c =
 pub returns : goal.returns
 returns c =
     let t = c.in_ok-fixed.ensures in
-    MatchResult-weaker c.count_next.result c.count_next.ensures (λ n h. (h.0, both t.1 h.1))
+    let h = counted c.fixed.new.self.rest.now c.fixed.new.self.line c.field.new.self.rest.now c.field.new.self.line c.args.places (λ w r j. search rules) c.field.result c.field.ensures in
+    MatchResult-weaker c.field.result h (λ n k. (k.0, both t.1 k.1))
     (λ y m. miscounted_after orders_words [] c.args.places c.args.self.now.rest.now c.fixed.new.self.rest.now c.args.self.now.line c.fixed.new.self.line (shown y) t.1 m)

@@ -1,6 +1,7 @@
 -- The invariant of the loop of `Cursor::fill`.
+use Rattle.std.proofs.Common.{take}
 use Rattle.sheet.specs.Steps.{Filled}
 use Rattle.sheet.proofs.cursor.Cursor.fill.Given as goal
 
-abbrev pub invariant-loop-i : goal.invariant-loop-i
-invariant-loop-i l = Filled l.i l.initial.self.rest.now l.initial.self.line l.initial.orders l.orders l.self.rest.now l.self.line
+abbrev pub invariant-loop-place : goal.invariant-loop-place
+invariant-loop-place l = Filled l.place-index l.fn.self.rest.now l.fn.self.line (take l.count l.fn.orders) l.place-items l.self.rest.now l.self.line

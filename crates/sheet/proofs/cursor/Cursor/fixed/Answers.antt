@@ -1,18 +1,10 @@
 -- What the search leaves to show of `Cursor::fixed`.
-use Rattle.std.proofs.lemmas.Result.{err_from_is_err_and}
-use Rattle.sheet.specs.Form.{placed, fixed}
-use Rattle.sheet.specs.Shown.{shown}
-use Rattle.sheet.proofs.Walks.{missed_ended}
+use Rattle.std.proofs.Common.{rules}
+use Rattle.sheet.specs.Form.{fixed}
+use Rattle.sheet.proofs.Fields.{stepped}
 use Rattle.sheet.proofs.cursor.Cursor.fixed.Goals as goal
 
-pub returns-in_err-word : goal.returns-in_err-word
-returns-in_err-word c =
-    let p = err_from_is_err_and c.from_residual.result c.from_residual.ensures.1 in
-    let e = c.in_err-word.ensures in
-    rw (p.1, p.2)
-    (record {
-      like = tt;
-      fine = tt;
-      fault =
-          missed_ended (placed (fixed c.args.text.now) c.args.text.now c.args.separator) c.args.self.now.rest.now c.args.self.now.line (shown c.in_err-word.field-0.0) e.0 e.1;
-    })
+pub returns : goal.returns
+returns c =
+    stepped c.args.self.now.rest.now c.args.self.now.line c.field.new.self.rest.now c.field.new.self.line (fixed c.args.text.now) (λ _. c.args.text.now) c.args.separator (λ _. Unit {0}) tt tt (λ w r h. search rules)
+    c.field.result c.field.ensures

@@ -2,7 +2,6 @@
 use Rattle.std.proofs.lemmas.Result.{err_from_is_err_and}
 use Rattle.sheet.specs.Shown.{shown}
 use Rattle.sheet.proofs.Heads.{title_fault, settings_fault, count_fault}
-use Rattle.sheet.proofs.Walks.{both}
 use Rattle.sheet.proofs.cursor.Cursor.head.Goals as goal
 
 pub returns-in_err-title : goal.returns-in_err-title
@@ -26,10 +25,3 @@ returns-in_err-count c =
     rw (p.1, p.2)
     (count_fault c.args.places c.in_ok-settings.settings c.args.self.now.rest.now c.title.new.self.rest.now c.settings.new.self.rest.now
     c.args.self.now.line c.title.new.self.line c.settings.new.self.line (shown c.in_err-count.field-0.0) t.1 s.0 s.1 c.in_err-count.ensures)
-
-pub returns : goal.returns
-returns c =
-    let t = c.in_ok-title.ensures in
-    let s = c.in_ok-settings.ensures in
-    let n = c.in_ok-count.ensures in
-    record { small = s.0; room = n.0; took = both t.1 (both s.1 n.1) }

@@ -1,19 +1,10 @@
 -- What the search leaves to show of `Cursor::number`.
-use Rattle.std.proofs.Common.{decimal, arith}
-use Rattle.std.proofs.lemmas.Result.{err_from_is_err_and}
-use Rattle.sheet.specs.Form.{placed, number}
-use Rattle.sheet.specs.Shown.{shown}
-use Rattle.sheet.proofs.Walks.{missed_ended}
+use Rattle.std.proofs.Common.{◌≤◌, decimal, arith, rules}
+use Rattle.sheet.specs.Form.{number}
+use Rattle.sheet.proofs.Fields.{stepped}
 use Rattle.sheet.proofs.cursor.Cursor.number.Goals as goal
 
-pub returns-in_err-word : goal.returns-in_err-word
-returns-in_err-word c =
-    let p = err_from_is_err_and c.from_residual.result c.from_residual.ensures.1 in
-    let e = c.in_err-word.ensures in
-    rw (p.1, p.2)
-    (record {
-      like = 0;
-      fine = omega arith;
-      fault =
-          missed_ended (placed (number c.args.limit) (decimal 0) c.args.separator) c.args.self.now.rest.now c.args.self.now.line (shown c.in_err-word.field-0.0) e.0 e.1;
-    })
+pub returns : goal.returns
+returns c =
+    stepped c.args.self.now.rest.now c.args.self.now.line c.field.new.self.rest.now c.field.new.self.line (number c.args.limit) decimal c.args.separator (λ n. n ≤ c.args.limit) 0 (omega arith) (λ w r h. search rules)
+    c.field.result c.field.ensures

@@ -6,21 +6,21 @@ use Rattle.sheet.specs.Faults.{Fault}
 use Rattle.sheet.specs.Kinds.{behind_kind}
 use Rattle.sheet.specs.Shown.{shown}
 use Rattle.sheet.specs.Steps.{Took}
-use Rattle.sheet.proofs.Names.{sample, sample_fits}
+use Rattle.sheet.proofs.OrderLines.{sample, sample_fits}
 use Rattle.sheet.proofs.Walks.{later, longer, both}
 use Rattle.sheet.proofs.cursor.Cursor.order.Goals as goal
 
-pub returns-in_err-k : goal.returns-in_err-k
-returns-in_err-k c =
+pub returns-in_err-kind : goal.returns-in_err-kind
+returns-in_err-kind c =
     let p = err_from_is_err_and c.from_residual.result c.from_residual.ensures.1 in
-    let m = c.in_err-k.ensures in
+    let m = c.in_err-kind.ensures in
     let s = sample_fits m.like in
-    let P : List Placed → Type 0 = λ ps. Fault ps c.args.self.now.rest.now c.args.self.now.line (shown c.in_err-k.field-0.0) in
+    let P : List Placed → Type 0 = λ ps. Fault ps c.args.self.now.rest.now c.args.self.now.line (shown c.in_err-kind.field-0.0) in
     rw (p.1, p.2) (record { like = sample m.like; fine = s.fine; fault = subst P (sym s.parts) (longer (behind_kind (sample m.like)) m.fault) })
 
 pub returns : goal.returns
 returns c =
-    let t = c.in_ok-k.ensures in
+    let t = c.in_ok-kind.ensures in
     let P : List Placed → Type 0 = λ ps. Took ps c.args.self.now.rest.now c.args.self.now.line c.order_of.new.self.rest.now c.order_of.new.self.line in
     MatchResult-weaker c.order_of.result c.order_of.ensures (λ o h. (h.0.fine, subst P (sym h.0.parts) (both t.1 h.1)))
     (λ y m.

@@ -1,37 +1,32 @@
 -- What the search leaves to show of `Cursor::order_of`.
-use Rattle.std.proofs.Common.{◌++◌, sym, ap}
-use Rattle.std.proofs.lemmas.Result.{err_from_is_err_and}
-use Rattle.orders.specs.declared.order.Order.TheVariants.{Write, Read, Tell, ReplicaOut, ClientOut}
-use Rattle.sheet.specs.declared.kind.Kind.{Kind}
-use Rattle.sheet.specs.Kinds.{kind_words, behind_kind}
+use Rattle.std.proofs.Common.{refl, rules}
+use Rattle.orders.specs.declared.order.Order.TheVariants as order
+use Rattle.sheet.specs.declared.kind.Kind.TheVariants.{Write, Read, Tell, ReplicaOut, ClientOut}
+use Rattle.sheet.specs.Form.{SmallValue, SmallNumber}
+use Rattle.sheet.proofs.OrderLines.{about}
 use Rattle.sheet.proofs.cursor.Cursor.order_of.Goals as goal
 
-pub returns-in_err-z-in-Write : goal.returns-in_err-z-in-Write
-returns-in_err-z-in-Write c =
-    let p = err_from_is_err_and c.from_residual.result c.from_residual.ensures.1 in
-    let m = c.in_err-z-in-Write.ensures in
-    rw (p.1, p.2) (record { like = Write m.like; fine = record { fine = record { small = m.fine }; parts = sym (ap (λ (k : Kind). kind_words k ++ behind_kind (Write m.like)) c.in-Write.is) }; fault = m.fault })
+pub returns-in-Write : goal.returns-in-Write
+returns-in-Write c =
+    about c.args.self.now.rest.now c.args.self.now.line c.value.new.self.rest.now c.value.new.self.line SmallValue c.args.kind Write order.Write c.in-Write.is
+    (λ a h. record { fine = record { small = h }; parts = refl }) c.value.result c.map.result (search rules) c.value.ensures
 
-pub returns-in_err-n-in-Read : goal.returns-in_err-n-in-Read
-returns-in_err-n-in-Read c =
-    let p = err_from_is_err_and c.from_residual-in_err-n-in-Read.result c.from_residual-in_err-n-in-Read.ensures.1 in
-    let m = c.in_err-n-in-Read.ensures in
-    rw (p.1, p.2) (record { like = Read m.like; fine = record { fine = record { small = m.fine }; parts = sym (ap (λ (k : Kind). kind_words k ++ behind_kind (Read m.like)) c.in-Read.is) }; fault = m.fault })
+pub returns-in-Read : goal.returns-in-Read
+returns-in-Read c =
+    about c.args.self.now.rest.now c.args.self.now.line c.number.new.self.rest.now c.number.new.self.line SmallNumber c.args.kind Read order.Read c.in-Read.is
+    (λ a h. record { fine = record { small = h }; parts = refl }) c.number.result c.map-in-Read.result (search rules) c.number.ensures
 
-pub returns-in_err-n-in-Tell : goal.returns-in_err-n-in-Tell
-returns-in_err-n-in-Tell c =
-    let p = err_from_is_err_and c.from_residual-in_err-n-in-Tell.result c.from_residual-in_err-n-in-Tell.ensures.1 in
-    let m = c.in_err-n-in-Tell.ensures in
-    rw (p.1, p.2) (record { like = Tell m.like; fine = record { fine = record { small = m.fine }; parts = sym (ap (λ (k : Kind). kind_words k ++ behind_kind (Tell m.like)) c.in-Tell.is) }; fault = m.fault })
+pub returns-in-Tell : goal.returns-in-Tell
+returns-in-Tell c =
+    about c.args.self.now.rest.now c.args.self.now.line c.number-in-Tell.new.self.rest.now c.number-in-Tell.new.self.line SmallNumber c.args.kind Tell order.Tell c.in-Tell.is
+    (λ a h. record { fine = record { small = h }; parts = refl }) c.number-in-Tell.result c.map-in-Tell.result (search rules) c.number-in-Tell.ensures
 
-pub returns-in_err-n-in-ReplicaOut : goal.returns-in_err-n-in-ReplicaOut
-returns-in_err-n-in-ReplicaOut c =
-    let p = err_from_is_err_and c.from_residual-in_err-n-in-ReplicaOut.result c.from_residual-in_err-n-in-ReplicaOut.ensures.1 in
-    let m = c.in_err-n-in-ReplicaOut.ensures in
-    rw (p.1, p.2) (record { like = ReplicaOut m.like; fine = record { fine = record { small = m.fine }; parts = sym (ap (λ (k : Kind). kind_words k ++ behind_kind (ReplicaOut m.like)) c.in-ReplicaOut.is) }; fault = m.fault })
+pub returns-in-ReplicaOut : goal.returns-in-ReplicaOut
+returns-in-ReplicaOut c =
+    about c.args.self.now.rest.now c.args.self.now.line c.number-in-ReplicaOut.new.self.rest.now c.number-in-ReplicaOut.new.self.line SmallNumber c.args.kind ReplicaOut order.ReplicaOut c.in-ReplicaOut.is
+    (λ a h. record { fine = record { small = h }; parts = refl }) c.number-in-ReplicaOut.result c.map-in-ReplicaOut.result (search rules) c.number-in-ReplicaOut.ensures
 
-pub returns-in_err-n-in-ClientOut : goal.returns-in_err-n-in-ClientOut
-returns-in_err-n-in-ClientOut c =
-    let p = err_from_is_err_and c.from_residual-in_err-n-in-ClientOut.result c.from_residual-in_err-n-in-ClientOut.ensures.1 in
-    let m = c.in_err-n-in-ClientOut.ensures in
-    rw (p.1, p.2) (record { like = ClientOut m.like; fine = record { fine = record { small = m.fine }; parts = sym (ap (λ (k : Kind). kind_words k ++ behind_kind (ClientOut m.like)) c.in-ClientOut.is) }; fault = m.fault })
+pub returns-in-ClientOut : goal.returns-in-ClientOut
+returns-in-ClientOut c =
+    about c.args.self.now.rest.now c.args.self.now.line c.number-in-ClientOut.new.self.rest.now c.number-in-ClientOut.new.self.line SmallNumber c.args.kind ClientOut order.ClientOut c.in-ClientOut.is
+    (λ a h. record { fine = record { small = h }; parts = refl }) c.number-in-ClientOut.result c.map-in-ClientOut.result (search rules) c.number-in-ClientOut.ensures

@@ -1,0 +1,38 @@
+-- The kinds of orders: an admitted order of each, and orders made of what stands behind the word of their kind.
+use Rattle.std.proofs.Common.{◌≡◌, ℕ, List, pos, Ok, Err, Result, MatchResult, sym, refl, subst, arith}
+use Rattle.std.specs.Result.{IsOkAnd}
+use Rattle.orders.specs.declared.order.Order.{Order}
+use Rattle.orders.specs.declared.order.Order.TheVariants as order
+use Rattle.sheet.specs.declared.fault.SheetFault.{SheetFault}
+use Rattle.sheet.specs.declared.kind.Kind.{Kind}
+use Rattle.sheet.specs.declared.kind.Kind.TheVariants.{Write, Read, Tell, Carry, ReplicaOut, ClientOut}
+use Rattle.sheet.specs.Kinds.{behind_kind, OfKind}
+use Rattle.sheet.specs.Steps.{Stepped, Took}
+
+-- some admitted order of a kind
+abbrev pub sample : Kind → Order
+sample Write = order.Write (pos 0)
+sample Read = order.Read 0
+sample Tell = order.Tell 0
+sample Carry = order.Carry
+sample ReplicaOut = order.ReplicaOut 0
+sample ClientOut = order.ClientOut 0
+
+pub sample_fits : (k : Kind) → OfKind k (sample k)
+sample_fits Write = record { fine = record { small = omega arith }; parts = refl }
+sample_fits Read = record { fine = record { small = omega arith }; parts = refl }
+sample_fits Tell = record { fine = record { small = omega arith }; parts = refl }
+sample_fits Carry = record { fine = record { small = tt }; parts = refl }
+sample_fits ReplicaOut = record { fine = record { small = omega arith }; parts = refl }
+sample_fits ClientOut = record { fine = record { small = omega arith }; parts = refl }
+
+-- an order that is made of what stands there
+pub about : {A : Type 0} (rest : List ℕ) (line : ℕ) (rest' : List ℕ) (line' : ℕ) (Fine : A → Type 0) (k m : Kind) (make : A → Order) → k ≡ m → ((a : A) → Fine a → OfKind m (make a)) → (r : Result A SheetFault) (q : Result Order SheetFault) → MatchResult r (λ a. IsOkAnd q (λ o. o ≡ make a)) (λ f. q ≡ Err f) → Stepped Fine (λ a. behind_kind (make a)) rest line rest' line' r → Stepped (OfKind k) behind_kind rest line rest' line' q
+about rest line rest' line' Fine k m make e fits (Ok a) (Ok o) h s =
+    let P : Order → Type 0 = λ x. OfKind k x × Took (behind_kind x) rest line rest' line' in
+    let K : Kind → Type 0 = λ j. OfKind j (make a) in
+    subst P (sym h) (subst K (sym e) (fits a s.0), s.1)
+about rest line rest' line' Fine k m make e fits (Ok a) (Err f) h s = absurd h
+about rest line rest' line' Fine k m make e fits (Err f) q h s =
+    let K : Kind → Type 0 = λ j. OfKind j (make s.like) in
+    rw h (record { like = make s.like; fine = subst K (sym e) (fits s.like s.fine); fault = s.fault })
