@@ -2,9 +2,8 @@
 use Rattle.std.proofs.Common.{◌≡◌, ℕ, zero, suc, ◌+◌, List, [], ◌∷◌, ◌++◌, length, refl, append_assoc, add-one, arith}
 use Rattle.std.proofs.lemmas.List.{length_push}
 use Rattle.std.specs.List.Sorted.{IsPermutation}
-use Rattle.std.proofs.lemmas.List.Sorted.{IsPermutation-cons, IsPermutation-trans, IsPermutation-sym}
+use Rattle.std.proofs.lemmas.List.Sorted.{IsPermutation-cons, IsPermutation-trans, IsPermutation-sym, IsPermutation-middle}
 use Rattle.wire.specs.declared.message.Message.{Message}
-use Rattle.wire.proofs.Shuffles.{shuffled_mid}
 use Rattle.register.specs.declared.register.Register.{Register}
 use Rattle.register.specs.declared.start.Round.{Round}
 use Rattle.register.specs.declared.start.Round.TheVariants.{Write, Read, Tell}
@@ -20,7 +19,7 @@ copies_more m n = rw add-one
 pub one_more : (m x : Message) (n : ℕ) (before after first : List Message) → x ≡ toward m n → IsPermutation before (copies m n ++ first) → IsPermutation after (x ∷ before) → IsPermutation after (copies m (n + 1) ++ first)
 one_more m x n before after first e had put =
     rw (copies_more m n, append_assoc (copies m n) (toward m n ∷ []) first)
-    (IsPermutation-trans _ _ _ (rw e at put) (IsPermutation-trans _ _ _ (IsPermutation-cons _ _ _ had) (IsPermutation-sym _ _ (shuffled_mid (copies m n) first (toward m n)))))
+    (IsPermutation-trans _ _ _ (rw e at put) (IsPermutation-trans _ _ _ (IsPermutation-cons _ _ _ had) (IsPermutation-sym _ _ (IsPermutation-middle (copies m n) (toward m n) first))))
 
 -- a round puts out one message for each of its replicas
 pub length_put_out : (r : Register) (q : Round) → length (put_out r (order_of q)) ≡ count_of r.settings q
