@@ -19,15 +19,15 @@ pub tells : (choice : Choice) (sheet text : List ℕ) (cells : ℕ) (before afte
     → cells ≡ 1024 → length before.orders ≡ 4096 → length before.answers ≡ 4096 → length before.out ≡ 65536
     → Rehearsed sheet [] (room_of choice cells) before after r → text ≡ told r after.out → Told choice sheet text
 tells choice sheet text cells before after r e orders answers out h same = record {
-    before = before;
-    after = after;
-    outcome = r;
-    orders = orders;
-    answers = answers;
-    out = out;
-    rehearsed = rw e at h;
-    bytes_told = same;
-  }
+  before = before;
+  after = after;
+  outcome = r;
+  orders = orders;
+  answers = answers;
+  out = out;
+  rehearsed = rw e at h;
+  bytes_told = same;
+}
 
 -- a listing's bytes stand in its space
 pub listing_fits : (sheet : List ℕ) (waiting : List Message) (places : ℕ) (before after : Memory) (n : ℕ) → Rehearsed sheet waiting places before after (Ok n) → n ≤ length after.out

@@ -3,3 +3,5 @@
 
 pub mod print;
 pub mod run;
+#[cfg(test)]
+mod tests;
