@@ -9,7 +9,7 @@ use Rattle.runner.specs.declared.choice.Choice.{Choice}
 use Rattle.console.specs.Printing.{Told, told, Prints}
 
 pub prints : {A E : Type 0} (choice : Choice) (given : Option (List ℕ)) (sheet text : List ℕ) (old new : Option (List ℕ)) (r : Result A E)
-    → IfSome (option_map (take 65536) given) (λ xs. sheet ≡ xs) → Told choice sheet text → OnOk r (Appends old new text)
+    → IfSome given (λ xs. sheet ≡ take 65536 xs) → Told choice sheet text → OnOk r (Appends old new text)
     → OnOk r (IfSome given (λ xs. Prints choice (take 65536 xs) old new))
 prints choice given sheet text old new (Err e) read t wrote = tt
 prints choice None sheet text old new (Ok x) read t wrote = tt
@@ -32,3 +32,8 @@ tells choice sheet text cells before after r e orders answers out h same = recor
 -- a listing's bytes stand in its space
 pub listing_fits : (sheet : List ℕ) (waiting : List Message) (places : ℕ) (before after : Memory) (n : ℕ) → Rehearsed sheet waiting places before after (Ok n) → n ≤ length after.out
 listing_fits sheet waiting places before after n r = elim r.drills [ inl read ↦ read.plays.written.fits | inr none ↦ absurd none ]
+
+-- what was read of at most so many bytes
+pub taken : (given : Option (List ℕ)) (sheet : List ℕ) → IfSome (option_map (take 65536) given) (λ xs. sheet ≡ xs) → IfSome given (λ xs. sheet ≡ take 65536 xs)
+taken None sheet read = tt
+taken (Some xs) sheet read = read

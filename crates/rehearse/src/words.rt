@@ -1,8 +1,13 @@
 //! Which channel the program's arguments name.
+ghost use Rattle.std.specs.Prelude.{map, MatchOption};
+ghost use Rattle.rehearse.specs.Words.{Names};
+
 use runner::choice::Choice;
 
 /// The choice of the words behind the program's own name; none for any other words.
-pub(crate) fn chosen(words: &[&str]) -> Option<Choice> {
+pub(crate) fn chosen(words: &[&str]) -> Option<Choice>
+    ensures { MatchOption result ((c : _) → ¬ (Names (map (λ w. w.now) words.now) c)) (λ c. Names (map (λ w. w.now) words.now) c) }
+{
     match *words {
         ["queue"] => Some(Choice::Queue),
         ["slots"] => Some(Choice::Slots),
