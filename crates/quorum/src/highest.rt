@@ -53,7 +53,7 @@ mod tests {
     fn reply_messages_name_versions(rt: HostRuntime) {
         let replies = [3, 7, 5].map(|version| Message {
             version,
-            ..Message::BLANK
+            ..Message::default()
         });
         assert_eq!(rt; highest(&replies), 7);
     }

@@ -1,5 +1,5 @@
--- The number and the line of a drill's fault.
-use Rattle.std.specs.Prelude.{ℕ}
+-- The number, the line and the text of a drill's fault.
+use Rattle.std.specs.Prelude.{ℕ, List, ◌∷◌, ◌++◌, codes, decimal}
 use Rattle.register.specs.Opening as register
 use Rattle.sheet.specs.Shown.{shown}
 use Rattle.runner.specs.declared.fault.DrillFault.{DrillFault}
@@ -13,3 +13,7 @@ fault_number (Register f) = register.fault_number f
 abbrev pub fault_line : DrillFault → ℕ
 fault_line (Sheet f) = (shown f).line
 fault_line (Register f) = 2
+
+-- what is printed of it, without a line end
+abbrev pub fault_text : DrillFault → List ℕ
+fault_text f = codes "fault " ++ decimal (fault_number f) ++ 32 ∷ decimal (fault_line f)

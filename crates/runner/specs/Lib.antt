@@ -1,3 +1,4 @@
 pub mod Faults
 pub mod Drill
 pub mod Rehearsal
+pub mod Memory

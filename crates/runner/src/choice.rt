@@ -1,44 +1,49 @@
-// The forms of channel that a rehearsal offers.
+//! The forms of channel that a rehearsal offers.
 ghost use Rattle.std.specs.Prelude.{[], length};
-ghost use Rattle.runner.specs.Rehearsal.{Rehearsed, memory, room_of};
+ghost use Rattle.runner.specs.Memory.{SameLenders, content};
+ghost use Rattle.runner.specs.Rehearsal.{Rehearsed, room_of};
 
 use crate::fault::DrillFault;
-use crate::rehearse::{rehearse, rehearse_delayed as delayed, rehearse_twice_delayed as twice};
+use crate::memory::Memory;
+use crate::rehearse::rehearse;
+use channels::delay::Delay;
 use channels::slots::Slots;
-use orders::answer::Answer;
-use orders::order::Order;
-use sheet::listing::Position;
 use wire::message::Message;
 use wire::queue::Queue;
 
-#[derive(Clone, Copy)]
+/// A replica's number may be any byte: a layer over one that the sheet does not have delays nothing.
+#[derive(Debug, Clone, Copy, PartialEq, Eq)]
 pub enum Choice {
     Queue,
     Slots,
-    // a layer that delays the replica, over a queue or a slot table
+    /// A layer that delays the replica, over a queue.
     DelayQueue(u8),
+    /// A layer that delays the replica, over a slot table.
     DelaySlots(u8),
-    // two layers over a queue, the upper one first
+    /// Two layers over a queue, the upper one first.
     DelayTwice(u8, u8),
 }
 
-// A drill over a new channel of the form chosen; a queue lies in the cells.
+/// A drill over a new channel of the form chosen; a queue lies in the cells.
 pub fn rehearse_by<'a>(
     choice: Choice,
     cells: &mut [Message],
     sheet: &'a [u8],
-    orders: &mut [Order],
-    answers: &mut [Answer],
-    out: &mut [u8],
-    at: &mut Position,
+    memory: &mut Memory,
 ) -> Result<usize, DrillFault<'a>>
-    ensures { Rehearsed sheet.now [] (room_of choice (length cells.old)) (memory orders.old answers.old out.old at.old.len) (memory orders.new answers.new out.new at.new.len) result }
+    ensures rehearsed { Rehearsed sheet.now [] (room_of choice (length cells.old)) (content memory.old) (content memory.new) result }
+    ensures lent { SameLenders memory.old memory.new }
 {
+    // Stays: a `&mut dyn Channel` that the form would choose does not meet `C: Channel` ("?Sized is not supported yet").
     match choice {
-        Choice::Queue => rehearse(Queue::new(cells), sheet, orders, answers, out, at),
-        Choice::Slots => rehearse(Slots::new(), sheet, orders, answers, out, at),
-        Choice::DelayQueue(n) => delayed(Queue::new(cells), n, sheet, orders, answers, out, at),
-        Choice::DelaySlots(n) => delayed(Slots::new(), n, sheet, orders, answers, out, at),
-        Choice::DelayTwice(n, m) => twice(Queue::new(cells), n, m, sheet, orders, answers, out, at),
+        Choice::Queue => rehearse(Queue::new(cells), sheet, memory),
+        Choice::Slots => rehearse(Slots::new(), sheet, memory),
+        Choice::DelayQueue(n) => rehearse(Delay::new(Queue::new(cells), n), sheet, memory),
+        Choice::DelaySlots(n) => rehearse(Delay::new(Slots::new(), n), sheet, memory),
+        Choice::DelayTwice(n, m) => rehearse(
+            Delay::new(Delay::new(Queue::new(cells), m), n),
+            sheet,
+            memory,
+        ),
     }
 }

@@ -1,8 +1,10 @@
-// The drill: a sheet in, a listing out, over any channel.
+//! The drill: a sheet in, a listing out, over any channel.
 ghost use Rattle.std.specs.Prelude.{◌≡◌, ◌≤◌, length};
 ghost use Rattle.runner.specs.Drill.{Drills, Plays, desk};
+ghost use Rattle.runner.specs.Memory.{SameLenders, on_desk};
 
 use crate::fault::DrillFault;
+use crate::memory::Memory;
 use laws::perform::perform;
 use orders::answer::Answer;
 use orders::order::Order;
@@ -23,22 +25,24 @@ fn play<'a, C: Channel>(
     ensures { Plays reading.settings reading.count (desk (C.held c.old) (C.places c.old) orders.now answers.old out.old at.old.len) (desk (C.held c.new) (C.places c.new) orders.now answers.new out.new at.new.len) result }
 {
     let n = reading.count;
-    let _register = perform(reading.settings, c, &orders[0..n], answers)?;
-    let written = write_listing(&answers[0..n], out, at)?;
+    let _register = perform(reading.settings, c, &orders[..n], answers)?;
+    let written = write_listing(&answers[..n], out, at)?;
     Ok(written)
 }
 
-// Reads the sheet, opens a register over the channel, runs the orders and writes the listing: its length, or the first fault.
+/// Reads the sheet, opens a register over the channel, runs the orders and writes the listing: its length, or the first fault.
 pub fn drill<'a, C: Channel>(
     sheet: &'a [u8],
     c: &mut C,
-    orders: &mut [Order],
-    answers: &mut [Answer],
-    out: &mut [u8],
-    at: &mut Position,
+    memory: &mut Memory,
 ) -> Result<usize, DrillFault<'a>>
-    ensures { Drills sheet.now (desk (C.held c.old) (C.places c.old) orders.old answers.old out.old at.old.len) (desk (C.held c.new) (C.places c.new) orders.new answers.new out.new at.new.len) result }
+    ensures drilled { Drills sheet.now (on_desk (C.held c.old) (C.places c.old) memory.old) (on_desk (C.held c.new) (C.places c.new) memory.new) result }
+    ensures lent { SameLenders memory.old memory.new }
 {
+    let orders = &mut *memory.orders;
+    let answers = &mut *memory.answers;
+    let out = &mut *memory.out;
+    let at = &mut *memory.at;
     let reading = read(sheet, orders)?;
     play(reading, c, orders, answers, out, at)
 }

@@ -1,17 +1,22 @@
-// What can go wrong in a drill; the lower fault is carried whole.
-ghost use Rattle.std.specs.Prelude.{◌≡◌};
+//! What can go wrong in a drill; the lower fault is carried whole.
+ghost use Rattle.std.specs.Prelude.{◌≡◌, Some};
 ghost use Rattle.runner.specs.declared.fault.DrillFault.TheVariants.{Sheet, Register};
-ghost use Rattle.runner.specs.Faults.{fault_number, fault_line};
+ghost use Rattle.runner.specs.Faults.{fault_number, fault_line, fault_text};
 
 use register::fault::RegisterFault;
 use sheet::fault::SheetFault;
+use std::fmt;
 
-// The sheet's author and reader, or whoever opens and runs; a channel's fault stands inside the register's.
+/// A channel's fault stands inside the register's.
 #[derive(Clone, Copy)]
 pub enum DrillFault<'a> {
+    /// Of the sheet, or of the listing's space.
     Sheet(SheetFault<'a>),
+    /// Of the settings, or of the memory handed in.
     Register(RegisterFault),
 }
+
+// Stays: the product's rules name this form: the fault below is carried by `From` and turned by `?`.
 
 impl<'a> From<SheetFault<'a>> for DrillFault<'a> {
     ghost from_gives = { λ a r. r ≡ Sheet a };
@@ -29,7 +34,16 @@ impl<'a> From<RegisterFault> for DrillFault<'a> {
     }
 }
 
+impl fmt::Display for DrillFault<'_> {
+    ghost output = { λ f. Some (fault_text f) };
+
+    fn fmt<W: fmt::Write>(&self, f: &mut fmt::Formatter<W>) -> fmt::Result {
+        write!(f, "fault {} {}", self.number(), self.line())
+    }
+}
+
 impl<'a> DrillFault<'a> {
+    /// 1 to 6 of the register and the channel, 31 to 36 of the sheet and the listing.
     pub fn number(self) -> u32
         ensures { result ≡ fault_number self.entry }
     {
@@ -39,7 +53,7 @@ impl<'a> DrillFault<'a> {
         }
     }
 
-    // The sheet's line; 2, the line of the settings, for the register and the channel.
+    /// The sheet's line, 0 for a listing; 2, the line of the settings, for the register and the channel.
     pub fn line(self) -> u32
         ensures { result ≡ fault_line self.entry }
     {

@@ -1,0 +1,32 @@
+//! A whole program: a sheet in, what comes of it out.
+ghost use Rattle.std.specs.Prelude.{◌≡◌, ℕ, List, take, IfOk, IfSome, OnOk};
+ghost use Rattle.console.specs.Printing.{Prints};
+
+use crate::print::printed;
+use runner::choice::Choice;
+use std::alloc::Global;
+use std::io;
+use std::io::{Read, Write};
+
+// The first 65,536 bytes of the input.
+fn read_sheet<R: Read + Drop>(alloc: Global, input: R) -> io::Result<Vec<u8>>
+    ensures { IfOk result (λ sheet. IfSome (R.remaining input) (λ given. sheet.items ≡ take 65536 given)) }
+{
+    let mut sheet = Vec::new(alloc);
+    input.take(65_536).read_to_end(&mut sheet)?;
+    Ok(sheet)
+}
+
+/// Takes the first 65,536 bytes of the input for the sheet. An error is of memory, or of the input or the writer.
+#[tactic(auto, using(crate::proofs::Printing::prints))]
+pub fn run<R: Read + Drop, W: Write>(
+    alloc: Global,
+    choice: Choice,
+    input: R,
+    w: &mut W,
+) -> io::Result<()>
+    ensures { OnOk result (IfSome (R.remaining input) (λ given. Prints choice (take 65536 given) (W.contents w.old) (W.contents w.new))) }
+{
+    let sheet = read_sheet(alloc, input)?;
+    w.write_all(&printed(alloc, choice, &sheet)?)
+}
