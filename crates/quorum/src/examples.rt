@@ -122,6 +122,7 @@ pub fn shown(d: Decided) -> Option<u32>
 }
 
 /// The rules decide every marked example as marked.
+// Stays: a function that carries a theorem in its contract, as the three of the laws do: no parameter can say which theorem it is.
 #[tactic(auto, unfolding(crate::specs::Deciding::agreed, crate::specs::Deciding::decided_at))]
 pub fn examples_stand() -> u8
     ensures { Stand }

@@ -10,6 +10,7 @@ use orders::order::Order;
 use wire::channel::Channel;
 
 // Stays: the product's rules hand each call a channel, which the register does not own: so every contract says the world of both.
+// Stays: five calls of one shape, each with its own check, round and number: one body would take these as closures and be no plainer.
 impl Register {
     /// The writer begins to write. Sent back, the first that fits: `Withdrawn`, `Busy`, `ValueRange`, `RoundLimit`, `NoRoom`.
     pub fn write<C: Channel>(&mut self, c: &mut C, value: i32) -> Answer

@@ -19,10 +19,11 @@ pub enum Phase {
 /// A client: withdrawn or not, its round, what it knows and its phase.
 #[derive(Debug, Clone, Copy)]
 pub struct Client {
+    // Stays: a flag beside the phase and no phase: a client that is withdrawn keeps its phase, and its call never ends.
     pub(crate) out: bool,
-    // raised by every set of messages that it puts out
+    /// raised by every set of messages that it puts out
     pub(crate) round: u32,
-    // what it knows: a version, its value and the value before
+    /// what it knows: a version, its value and the value before
     pub(crate) version: u32,
     pub(crate) value: i32,
     pub(crate) previous: i32,

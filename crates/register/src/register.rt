@@ -4,6 +4,7 @@ use crate::settings::Checked;
 use replica::row::Row;
 
 /// Settings, replicas and clients. Tens of kilobytes: handed on by reference.
+// Stays: fixed tables, since the library allocates nothing.
 #[derive(Drop)]
 pub struct Register {
     pub(crate) settings: Checked,

@@ -2,6 +2,7 @@
 ghost use Rattle.std.specs.Prelude.{◌≤◌};
 
 /// A replica's record: none exists whose note exceeds its version.
+// Stays: no twin of `Row`: the product's rules ask for a plain row in the table, and for a record that cannot be unsound.
 #[derive(Debug, Clone, Copy)]
 pub struct Replica {
     pub(crate) version: u32,

@@ -9,6 +9,7 @@ use crate::fault::SheetFault;
 use itoa::{Buffer, Integer};
 use orders::answer::{Answer, Listed};
 
+// Stays: no twin of a channel's `Full`: no byte more fits, and this crate stands on orders alone and knows no channel.
 #[derive(Clone, Copy)]
 struct Full;
 
