@@ -13,7 +13,7 @@ use orders::settings::Settings;
 
 impl<'a> Cursor<'a> {
     pub(crate) fn head(&mut self, places: usize) -> Result<Reading, SheetFault<'a>>
-        requires first { self.old.line ≡ 1 }
+        requires early { self.old.line < 2 ^ 20 }
         ensures { MatchResult result (λ g. HeadTook places g self.old.rest.now self.old.line self.new.rest.now self.new.line) (λ f. HeadFault places self.old.rest.now self.old.line (shown f)) }
     {
         self.title()?;
