@@ -7,7 +7,8 @@ use console::print::printed;
 use runner::choice::Choice;
 use std::io::{Read, Write};
 
-// The number that the digits write. Bytes below them count as 0.
+// The number that the digits write.
+// Stays: `parse` refuses bytes that are no digits, and this program counts them too.
 fn number(digits: &[u8]) -> usize {
     digits.iter().fold(0, |n: usize, b| {
         n.saturating_mul(10)

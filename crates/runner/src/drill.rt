@@ -13,6 +13,7 @@ use sheet::read::{Reading, read};
 use wire::channel::Channel;
 
 // Does the orders that were read, and lists their answers.
+// Stays: the product's rules name this form: the faults below come up by `From` and `?`.
 fn play<'a, C: Channel>(
     reading: Reading,
     c: &mut C,
