@@ -8,7 +8,7 @@ use sheet::fault::SheetFault;
 use std::fmt;
 
 /// A channel's fault stands inside the register's.
-#[derive(Clone, Copy)]
+#[derive(Debug, Clone, Copy, PartialEq, Eq)]
 pub enum DrillFault<'a> {
     /// Of the sheet, or of the listing's space.
     Sheet(SheetFault<'a>),
