@@ -1,8 +1,7 @@
 -- What a table of slots holds.
-use Rattle.std.specs.Prelude.{◌≡◌, ℕ, suc, ◌<◌, Bool, false, ◌&&◌, ◌||◌, List, [], ◌∷◌, length, Some, None, Option, ◌==◌, nat_lt, slice_index_or}
+use Rattle.std.specs.Prelude.{◌≡◌, ℕ, suc, ◌<◌, Bool, true, false, ◌&&◌, ◌||◌, List, [], ◌∷◌, length, Some, None, Option, ◌==◌, nat_lt, slice_index_or}
 use Rattle.wire.specs.declared.message.Message.{Message}
-use Rattle.channels.specs.declared.slots.Turn.{Turn}
-use Rattle.channels.specs.declared.slots.Turn.TheVariants.{Held, Unused}
+use Rattle.channels.specs.declared.slots.Rank.{Rank}
 
 module _ {M : Type 0} where
   -- the messages in the slots
@@ -33,10 +32,10 @@ abbrev pub Lowest : List (Option Message) → Option Message → Type 0
 Lowest xs None = Unit {0}
 Lowest xs (Some m) = NoLower xs (length xs) m
 
--- a slot's turn: its message's, or that of no message
-abbrev pub turn_of : Option Message → Turn
-turn_of None = Unused
-turn_of (Some m) = Held (record { round = m.round; replica = m.replica; client = m.client; kind = m.kind })
+-- a slot's turn: its message's rank; an unused slot's comes after all others
+abbrev pub turn_of : Option Message → Bool × Option Rank
+turn_of None = (true, None)
+turn_of (Some m) = (false, Some (record { round = m.round; replica = m.replica; client = m.client; kind = m.kind }))
 
 -- what a search for a lowest message has found in the slots below n
 abbrev pub Found : List (Option Message) → ℕ → Option (ℕ × Message) → Type 0

@@ -1,4 +1,4 @@
-// Two more channels: a table of slots, and a layer that delays what goes to one replica.
+//! Two more channels: a table of slots, and a layer that delays what goes to one replica.
 #![tactic(auto)]
 
 pub mod delay;

@@ -23,25 +23,17 @@ struct Rank {
     kind: u8,
 }
 
-/// A slot's turn; an unused slot's comes after all others.
-#[derive(Clone, Copy, PartialEq, Eq, PartialOrd, Ord)]
-enum Turn {
-    Held(Rank),
-    Unused,
-}
-
-fn turn_of(slot: &Option<Message>) -> Turn
+/// A slot's turn: what is held comes by its rank, and an unused slot after all others.
+fn turn_of(slot: &Option<Message>) -> (bool, Option<Rank>)
     ensures { result ≡ turn_of slot.now }
 {
-    match slot {
-        Some(m) => Turn::Held(Rank {
-            round: m.round,
-            replica: m.replica,
-            client: m.client,
-            kind: m.kind,
-        }),
-        None => Turn::Unused,
-    }
+    let rank = slot.map(|m| Rank {
+        round: m.round,
+        replica: m.replica,
+        client: m.client,
+        kind: m.kind,
+    });
+    (rank.is_none(), rank)
 }
 
 // The first slot that is unused.

@@ -9,6 +9,7 @@ use Rattle.laws.proofs.Sets.{Lacks, Distinct, Many}
 use Rattle.laws.proofs.Cards.{Card, Slip, replicas_of, highest, Several}
 use Rattle.laws.proofs.Members.{Among, no_longer}
 
+-- No slip is above the highest.
 pub highest_tops : (ss : List Slip) → AllByRecursion (λ s. s.card.version ≤ highest ss) ss
 highest_tops [] = tt
 highest_tops (s ∷ ss) = (omega arith, All-weaker (λ (x : Slip). x.card.version ≤ highest ss) (λ (x : Slip). x.card.version ≤ max s.card.version (highest ss)) (λ x h. omega arith) ss (highest_tops ss))

@@ -15,6 +15,7 @@ use wire::channel::Channel;
 
 /// Opens a register over any channel and does the orders: they are a past from the opening, this past keeps the laws, and so does every other.
 /// A fault leaves channel and answers as they were: the settings or the channel do not open, or the answers are fewer than the orders.
+// Stays: two lists, as in `Register::run`.
 #[tactic(auto, using(crate::proofs::Session::outcome_lawful))]
 pub fn perform<C: Channel>(
     s: Settings,

@@ -60,7 +60,7 @@ pub enum Answer {
 }
 
 /// An answer as a listing shows it; what the answer has not is 0.
-#[derive(Debug, Clone, Copy, PartialEq, Eq)]
+#[derive(Debug, Clone, Copy, PartialEq, Eq, Default)]
 pub struct Listed {
     // Stays: a number, since this is what the listing prints; `Answer` has the names.
     pub code: u32,
@@ -96,9 +96,7 @@ fn bare(code: u32, who: u32) -> Listed
     Listed {
         code,
         who,
-        version: 0,
-        value: 0,
-        rounds: 0,
+        ..Listed::default()
     }
 }
 

@@ -1,4 +1,5 @@
 //! The six calls that a register takes, as orders with numbers as they are given.
+/// A number may be any: whether there is such a reader, replica or client is judged when the order is done.
 #[derive(Debug, Clone, Copy, PartialEq, Eq)]
 pub enum Order {
     /// the writer begins to write a value

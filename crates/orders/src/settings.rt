@@ -1,4 +1,5 @@
 //! Settings as they are given, of any size: nothing is checked yet.
+/// What a register is opened with.
 #[derive(Debug, Clone, Copy, PartialEq, Eq)]
 pub struct Settings {
     /// S: how many replicas hold a copy

@@ -9,6 +9,9 @@ ghost use Rattle.quorum.specs.Masks.{covers, used_at, largest, mask_agrees};
 use crate::rule::Rule;
 use crate::slip::Reading;
 
+// Stays: slips and version h as two parameters, here, in highest.rt and in decide.rt: the definitions take them so, and a struct of both
+// would be opened in every clause and closure.
+
 // How many replies are at version h and have every mark of the mask.
 fn covering(slips: &[Reading], h: u32, mask: u8) -> usize
     ensures { result ≡ count_by (covers h mask) slips.now }

@@ -7,7 +7,8 @@ use crate::slip::{Reading, Receipt, Slip};
 use crate::tally::add_to;
 
 /// The slips of one round: the first got of 32 places; the others are free.
-// Stays: the library allocates nothing, so an array with a count beside it; both are public and copied, so no ghost field ties them.
+// Stays: an array with a count beside it: an `ArrayVec` is not `Copy`, as this and every client that holds it are, and the tally that the
+// product's rules name goes over lent places. Both fields are public, so no ghost field ties them.
 #[derive(Debug, Clone, Copy)]
 pub struct Replies<T> {
     /// how many are counted

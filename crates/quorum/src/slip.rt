@@ -37,6 +37,8 @@ pub struct Reading {
     pub note: u32,
 }
 
+// Stays: the product's rules name this form: receipts, readings and reply messages are slips. Three impls of one field, since a macro of
+// one's own may not write an impl.
 impl Slip for Receipt {
     ghost sent_by = { λ s. s.replica };
 
@@ -84,7 +86,6 @@ impl From<Message> for Reading {
     }
 }
 
-// Stays: the product's rules name this form: a reply message is a slip, and names a version, too.
 impl Slip for Message {
     ghost sent_by = { λ m. m.replica };
 

@@ -93,6 +93,7 @@ impl Client {
     {
         match &self.phase {
             Phase::Asking(readings) => {
+                // Stays: no From of Checked: a rule is made here alone, and the impl would be longer than the literal.
                 let rule = Rule {
                     replicas: k.replicas,
                     tolerated: k.tolerated,

@@ -1,7 +1,7 @@
 //! Why a call is sent back: the first refusal that fits, tried in rising order of the numbers.
 ghost use Rattle.std.specs.Prelude.{◌≡◌, ◌<◌, IfOk};
 ghost use Rattle.register.specs.Opening.{FailsBy};
-ghost use Rattle.register.specs.Calls.{is_idle, is_due, write_refusal, read_refusal, tell_refusal, reader_refusal, replica_out_refusal, client_out_refusal};
+ghost use Rattle.register.specs.Calls.{write_refusal, read_refusal, tell_refusal, reader_refusal, replica_out_refusal, client_out_refusal};
 
 use crate::check::value_in_range;
 use crate::client::Phase;
@@ -9,21 +9,8 @@ use crate::register::Register;
 use orders::answer::Refusal;
 use orders::limits::ROUNDS_MAX;
 
-impl Phase {
-    fn is_idle(&self) -> bool
-        ensures { result ≡ is_idle self.now }
-    {
-        matches!(self, Phase::Idle)
-    }
-
-    fn is_due(&self) -> bool
-        ensures { result ≡ is_due self.now }
-    {
-        matches!(self, Phase::Due)
-    }
-}
-
 // A number that passes is given back as its place in the table.
+// Stays: the bound on that place stands in each contract: a struct with a ghost field for it would be made in one function and opened at every index.
 impl Register {
     /// room: the channel has a free place for each message of the set.
     pub(crate) fn check_write(&self, room: bool, value: i32) -> Result<(), Refusal>
@@ -33,7 +20,7 @@ impl Register {
         if writer.out {
             return Err(Refusal::Withdrawn);
         }
-        if !writer.phase.is_idle() {
+        if !matches!(writer.phase, Phase::Idle) {
             return Err(Refusal::Busy);
         }
         if !value_in_range(value) {
@@ -53,7 +40,7 @@ impl Register {
         ensures place { IfOk result (λ c. (c ≡ reader) × (c < 65)) }
     {
         let c = self.check_reader(reader)?;
-        if !self.clients[c].phase.is_idle() {
+        if !matches!(self.clients[c].phase, Phase::Idle) {
             return Err(Refusal::Busy);
         }
         if self.clients[c].round >= ROUNDS_MAX {
@@ -70,7 +57,7 @@ impl Register {
         ensures place { IfOk result (λ c. (c ≡ reader) × (c < 65)) }
     {
         let c = self.check_reader(reader)?;
-        if !self.clients[c].phase.is_due() {
+        if !matches!(self.clients[c].phase, Phase::Due) {
             return Err(Refusal::NotDue);
         }
         if !room {

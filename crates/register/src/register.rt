@@ -12,7 +12,7 @@ pub struct Register {
     // Stays: no plainer to count them in the table at each withdrawal, which asks for the number alone.
     pub(crate) outs: u8,
     /// which replicas are out; the first S are in use
-    // Stays: one table of pairs with the rows is no plainer: being out is the register's affair, and the delivery step is lent a row alone.
+    // Stays: a table beside the rows: the delivery step is lent what a replica holds, and a struct of both would only be taken apart there.
     pub(crate) out: [bool; 32],
     /// what each replica holds; the first S are in use
     pub(crate) rows: [Row; 32],

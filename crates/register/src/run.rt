@@ -10,7 +10,7 @@ use wire::channel::Channel;
 
 impl Register {
     /// One order.
-    // Stays: an order is a value of a sheet, so an enum names the six calls; a table of functions would be no plainer.
+    // Stays: an order is read from a sheet, so an enum holds it and one match does it; a table of functions would still need a place for each kind.
     pub fn order<C: Channel>(&mut self, c: &mut C, o: Order) -> Answer
         ensures { Answered (world self.old (C.held c.old) (C.places c.old)) o result (world self.new (C.held c.new) (C.places c.new)) }
     {

@@ -11,6 +11,7 @@ use orders::settings::Settings;
 use wire::channel::Channel;
 
 /// Opens a register and does the orders; gives the register as they leave it. A fault leaves channel and answers as they were.
+// Stays: two lists, as in `Register::run`.
 pub fn open_and_run<C: Channel>(
     s: Settings,
     c: &mut C,

@@ -13,6 +13,7 @@ impl From<Row> for Replica {
     ghost from_gives = { λ row r. plain r ≡ record_of row };
 
     fn from(row: Row) -> Replica {
+        // a literal takes an array from a variable only
         let rounds = row.rounds;
         Replica {
             version: row.version,

@@ -41,6 +41,9 @@ ring_whole xs s n e =
     let le : length xs ≤ s = omega arith in
     rw (drop_all s xs le, take_all s xs le) (ap (take n) (sym (append-nil xs)))
 
+pub length_ring : {X : Type 0} (xs : List X) (s n : ℕ) → s ≤ length xs → n ≤ length xs → length (ring xs s n) ≡ n
+length_ring xs s n h m = simp (length-take, length-append, length-drop) (omega arith)
+
 pub ring_push : {X : Type 0} (xs : List X) (s n i : ℕ) (y : X) → s ≤ length xs → n < length xs → i ≡ end_of s n (length xs) → ring (set xs i y) s (n + 1) ≡ ring xs s n ++ y ∷ []
 ring_push xs s n i y h m e =
     elim (cases_lt n (length xs - s)) [

@@ -1,7 +1,5 @@
 -- The elements of a ring: len of them from start on, going round at the end of the cells.
 use Rattle.std.specs.Prelude.{ℕ, ◌+◌, ◌-◌, cond, List, ◌++◌, take, drop, nat_lt}
-use Rattle.std.specs.Borrow.{MutBor}
-use Rattle.wire.specs.declared.message.Message.{Message}
 
 abbrev pub ring : {X : Type 0} → List X → ℕ → ℕ → List X
 ring xs start len = take len (drop start xs ++ take start xs)
@@ -13,9 +11,3 @@ end_of start len cap = cond (nat_lt len (cap - start)) (start + len) (len - (cap
 -- the cell of the first element
 abbrev pub first_of : ℕ → ℕ → ℕ
 first_of start cap = cond (nat_lt start cap) start 0
-
--- a queue: the messages that wait, oldest first, how many more fit, and the cells that are lent to it
-pub record Queued : Type 0 where
-  pub items : List Message
-  pub room : ℕ
-  pub cells : MutBor (List Message)

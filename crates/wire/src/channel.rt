@@ -17,9 +17,11 @@ pub trait Channel {
     /// how many more can be put in
     ghost places: { Self → ℕ };
 
+    /// Takes the message, or sends it back where no place is free.
     fn put(&mut self, m: Message) -> Result<(), Full>
         ensures { Put (held self.old) (places self.old) m (held self.new) (places self.new) result };
 
+    /// One message that waited, of the channel's choice; none where none waits.
     fn take(&mut self) -> Option<Message>
         ensures { Taken (held self.old) (places self.old) (held self.new) (places self.new) result };
 

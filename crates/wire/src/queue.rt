@@ -1,34 +1,28 @@
 //! The first-in first-out queue, a ring in memory that is lent to it.
 ghost use Rattle.std.specs.Prelude.{◌≡◌, ℕ, ◌-◌, ◌<◌, ◌≤◌, [], length};
-ghost use Rattle.wire.specs.Ring.{Queued, ring, end_of, first_of};
+ghost use Rattle.wire.specs.Ring.{ring, end_of, first_of};
 ghost use Rattle.wire.specs.Channel.{Taken, Oldest};
 
 use crate::channel::{Channel, Full};
 use crate::message::Message;
-use std::marker::Model;
 
 /// The messages lie in `len` cells from `start` on, going round at the end; a `start` at the end means the first cell.
 // Stays: a ring by hand, since its cells are lent and fixed, and none of the kit's queues lies in lent memory.
+// Stays: ghost fields, and the ring spelled out in the clauses: tried as an `impl Model`, whose view hides these two bounds from callers.
 #[derive(Drop)]
 pub struct Queue<'a> {
     cells: &'a mut [Message],
     start: usize,
     len: usize,
-}
-
-impl<'a> Model for Queue<'a> {
-    ghost Value = { Queued };
-
-    ghost view = { λ q. record { items = ring q.cells.now q.start q.len; room = length q.cells.now - q.len; cells = q.cells } };
-
-    ghost invariant = { λ q. (q.start ≤ length q.cells.now) × (q.len ≤ length q.cells.now) };
+    ghost within: { start ≤ length cells.now },
+    ghost few: { len ≤ length cells.now },
 }
 
 impl<'a> Queue<'a> {
     /// Nothing waits, and every cell is a free place; what the cells held is of no account.
     pub fn new(cells: &'a mut [Message]) -> Self
-        ensures empty { result.items ≡ [] }
-        ensures room { result.room ≡ length cells.old }
+        ensures empty { ring result.cells.now result.start result.len ≡ [] }
+        ensures room { length result.cells.now - result.len ≡ length cells.old }
         ensures cells { result.cells.now ≡ cells.old }
         ensures lender { result.cells.ghost_name ≡ cells.entry.ghost_name }
     {
@@ -62,9 +56,9 @@ fn first_of(start: usize, cap: usize) -> usize
 }
 
 impl Channel for Queue<'_> {
-    ghost held = { λ q. q.items };
+    ghost held = { λ q. ring q.cells.now q.start q.len };
 
-    ghost places = { λ q. q.room };
+    ghost places = { λ q. length q.cells.now - q.len };
 
     fn put(&mut self, m: Message) -> Result<(), Full> {
         if self.len >= self.cells.len() {
@@ -78,8 +72,8 @@ impl Channel for Queue<'_> {
 
     /// It gives the oldest.
     fn take(&mut self) -> Option<Message>
-        ensures meets { Taken self.old.items self.old.room self.new.items self.new.room result }
-        ensures oldest { Oldest self.old.items self.new.items result }
+        ensures meets { Taken (ring self.old.cells.now self.old.start self.old.len) (length self.old.cells.now - self.old.len) (ring self.new.cells.now self.new.start self.new.len) (length self.new.cells.now - self.new.len) result }
+        ensures oldest { Oldest (ring self.old.cells.now self.old.start self.old.len) (ring self.new.cells.now self.new.start self.new.len) result }
     {
         if self.len == 0 {
             return None;
@@ -91,6 +85,7 @@ impl Channel for Queue<'_> {
         Some(m)
     }
 
+    #[tactic(auto, using(crate::proofs::Rings::length_ring))]
     fn waiting(&self) -> u32 {
         u32::try_from(self.len).unwrap_or(u32::MAX)
     }
