@@ -89,9 +89,7 @@ pub fn write_line(
         start,
         complete: false,
     };
-    if guard.at.line(out, listed).is_err() {
-        return Err(SheetFault::Listing);
-    }
+    guard.at.line(out, listed).map_err(|_| SheetFault::Listing)?;
     guard.complete = true;
     Ok(())
 }
