@@ -7,7 +7,7 @@ ghost use Rattle.sheet.specs.Steps.{Closed, Unclosed};
 use crate::fault::SheetFault;
 use crate::word::word_len;
 
-// Stays: each step has a bound on the line in its `requires`. Tried, a ghost field `line + length rest.now < 2 ^ 32`: the proof didn't close where `read` makes the cursor (`invariant_of-cursor`), since a sheet may be longer; only the number of steps bounds the line.
+// Stays: each step bounds the line in its `requires`. Tried as a ghost field, `line + length rest.now < 2 ^ 32`: the proof didn't close where `read` makes the cursor (`invariant_of-cursor`), for a sheet may be longer.
 #[derive(Drop)]
 pub(crate) struct Cursor<'a> {
     pub(crate) rest: &'a [u8],

@@ -7,6 +7,7 @@ ghost use Rattle.sheet.specs.Steps.{Unfit};
 
 use crate::fault::SheetFault;
 
+// Stays: no twin of `Order`: the kind alone, before its number is read.
 #[derive(Clone, Copy)]
 pub(crate) enum Kind {
     Write,
@@ -31,11 +32,11 @@ impl Kind {
 fn kind_of(word: &[u8]) -> Option<Kind>
     ensures { result ≡ kind_at word.now }
 {
-    let [letter] = word else {
+    let [byte] = word else {
         return None;
     };
     // Stays: the product's rules name this form: a match over the char literals of the six kinds.
-    match char::from(*letter) {
+    match char::from(*byte) {
         'w' => Some(Kind::Write),
         'r' => Some(Kind::Read),
         't' => Some(Kind::Tell),

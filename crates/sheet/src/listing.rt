@@ -9,7 +9,7 @@ use crate::fault::SheetFault;
 use itoa::{Buffer, Integer};
 use orders::answer::{Answer, Listed};
 
-// Stays: no twin of a channel's `Full`: no byte more fits, and this crate stands on orders alone and knows no channel.
+// Stays: no twin of a channel's `Full`: no byte more fits, and this crate knows no channel.
 #[derive(Clone, Copy)]
 struct Full;
 
@@ -51,8 +51,8 @@ impl Position {
     }
 }
 
-// Stays: the product's rules name this form: a guard that holds the position alone, so the space and the position travel as two.
 /// Puts the length back to where the line began, unless the line was completed.
+// Stays: the product's rules name this form: a guard on the position alone, which puts the length back unless the line was completed; so the flag, and so space and position travel as two.
 pub struct LineGuard<'a> {
     at: &'a mut Position,
     start: usize,
@@ -89,9 +89,7 @@ pub fn write_line(
         start,
         complete: false,
     };
-    if guard.at.line(out, listed).is_err() {
-        return Err(SheetFault::Listing);
-    }
+    guard.at.line(out, listed).map_err(|_| SheetFault::Listing)?;
     guard.complete = true;
     Ok(())
 }

@@ -10,8 +10,6 @@ use crate::word::Word;
 use orders::limits::{NUMBER_MAX, ORDERS_MAX};
 use std::str;
 
-// Stays: a word and its line go as two parameters: each fault holds the two as fields of its own, and a struct of both would be taken apart at every fault.
-
 // The number that digits write, where it is below 2 ^ 32.
 fn amount_of(digits: &[u8]) -> Option<u32>
     requires { numeral digits.now ≡ true }
@@ -21,6 +19,7 @@ fn amount_of(digits: &[u8]) -> Option<u32>
 }
 
 // The number that the digits of a word write, up to a limit.
+// Stays: a word and its line go as two parameters, here and below: each fault holds the two as fields of its own, and a struct of both would be taken apart at every fault.
 fn bounded<'a>(word: &'a [u8], digits: &[u8], limit: u32, line: u32) -> Result<u32, SheetFault<'a>>
     requires { numeral digits.now ≡ true }
     ensures { MatchResult result (λ n. (n ≡ amount digits.now) × (n ≤ limit)) (λ f. (limit < amount digits.now) × (shown f ≡ shows 32 line word.now)) }

@@ -35,6 +35,7 @@ impl<'a> Cursor<'a> {
         requires early { self.old.line < 2 ^ 31 }
         ensures { Stepped (OfKind kind) behind_kind self.old.rest.now self.old.line self.new.rest.now self.new.line result }
     {
+        // Stays: a kind is read from the sheet before its number, so an enum holds it; a function pointer may not be handed out.
         match kind {
             Kind::Write => self.value(b'\n').map(Order::Write),
             Kind::Read => self.number(NUMBER_MAX, b'\n').map(Order::Read),

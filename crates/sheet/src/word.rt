@@ -3,8 +3,8 @@ ghost use Rattle.std.specs.Prelude.{◌≡◌};
 ghost use Rattle.std.specs.List.{prefix_len};
 ghost use Rattle.sheet.specs.Words.{in_word, numeral, sort_of, sorted};
 
-// Stays: the product's rules name this form: an enum whose cases hold parts of the input.
 /// A judged word. Each case holds a part of the sheet.
+// Stays: the product's rules name this form: an enum whose cases hold parts of the input.
 #[derive(Clone, Copy)]
 pub enum Word<'a> {
     /// a number
@@ -34,6 +34,7 @@ fn is_numeral(word: &[u8]) -> bool
 }
 
 impl<'a> Word<'a> {
+    /// No number has a leading zero, and `-0` is none: such a word is a name, as the empty one is.
     pub fn judge(word: &'a [u8]) -> Word<'a>
         ensures { sort_of result ≡ sorted word.now }
     {
