@@ -17,7 +17,7 @@ stepped rest line rest' line' due writes separator Fine some fine judge (Err f) 
     record { like = some; fine = fine; fault = missed_ended (placed due (writes some) separator) rest line (shown f) e s }
 stepped rest line rest' line' due writes separator Fine some fine judge (Err f) (refused word e more j) =
     record { like = some; fine = fine; fault = missed_unfit (placed due (writes some) separator) rest word.now line (shown f) e more (judge word (Err f) j) }
-stepped rest line rest' line' due writes separator Fine some fine judge (Err f) (unclosed word a j u) =
+stepped rest line rest' line' due writes separator Fine some fine judge (Err f) (unclosed word a w j u) =
     let m = judge word (Ok a) j in
     record { like = a; fine = m.0; fault = missed_unclosed (placed due (writes a) separator) rest word.now line (shown f) m.1 u }
 
@@ -29,6 +29,6 @@ counted rest line rest' line' places judge (Ok n) t =
 counted rest line rest' line' places judge (Err f) (missing e s) =
     wrong (record { like = 0; fine = (omega arith, omega arith); fault = missed_ended (placed (number orders_max) (decimal 0) 10) rest line (shown f) e s })
 counted rest line rest' line' places judge (Err f) (refused word e more j) = miscounted_word places rest word.now line (shown f) e more (judge word (Err f) j)
-counted rest line rest' line' places judge (Err f) (unclosed word n j u) =
+counted rest line rest' line' places judge (Err f) (unclosed word n w j u) =
     let m = judge word (Ok n) j in
     wrong (record { like = n; fine = (m.0.small, m.1); fault = missed_unclosed (placed (number orders_max) (decimal n) 10) rest word.now line (shown f) m.0.same u })

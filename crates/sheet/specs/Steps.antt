@@ -56,11 +56,12 @@ Stepped Fine words rest line rest' line' r = MatchResult r (λ a. Fine a × Took
 pub data Unfielded {A : Type 0} (Judged : Bor (List ℕ) → Result A SheetFault → Type 0) (separator : ℕ) (rest : List ℕ) (line : ℕ) (f : SheetFault) : Type 0 where
   missing : rest ≡ [] → shown f ≡ shows 33 line [] → Unfielded Judged separator rest line f
   refused : (word : Bor (List ℕ)) → word.now ≡ word_of rest → 0 < length rest → Judged word (Err f) → Unfielded Judged separator rest line f
-  unclosed : (word : Bor (List ℕ)) (a : A) → Judged word (Ok a) → Unclosed word.now separator rest line (shown f) → Unfielded Judged separator rest line f
+  unclosed : (word : Bor (List ℕ)) (a : A) → word.now ≡ word_of rest → Judged word (Ok a) → Unclosed word.now separator rest line (shown f) → Unfielded Judged separator rest line f
 
 -- a word that is judged so and its separator are taken
 pub record FieldTook {A : Type 0} (Judged : Bor (List ℕ) → Result A SheetFault → Type 0) (separator : ℕ) (rest : List ℕ) (line : ℕ) (rest' : List ℕ) (line' : ℕ) (a : A) : Type 0 where
   pub word : Bor (List ℕ)
+  pub next : word.now ≡ word_of rest
   pub judged : Judged word (Ok a)
   pub closed : Closed word.now separator rest line rest' line'
 

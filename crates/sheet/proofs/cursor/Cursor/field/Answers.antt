@@ -12,4 +12,4 @@ returns-in_err-value g c =
 pub returns-in_err-close : goal.returns-in_err-close
 returns-in_err-close g c =
     let p = err_from_is_err_and c.from_residual-in_err-close.result c.from_residual-in_err-close.ensures.1 in
-    rw (p.1, p.2) (unclosed c.in_ok-word.word c.in_ok-value.value c.in_ok-value.ensures c.in_err-close.ensures)
+    rw (p.1, p.2) (unclosed c.in_ok-word.word c.in_ok-value.value c.in_ok-word.ensures.0 c.in_ok-value.ensures c.in_err-close.ensures)
