@@ -8,7 +8,7 @@ use runner::choice::Choice;
 use std::io::{Read, Write};
 
 // The number that the digits write.
-// Stays: `parse` refuses bytes that are no digits, and this program counts them too.
+// Stays: the program does what it did: `parse` refuses bytes that are no digits, and this counts them.
 fn number(digits: &[u8]) -> usize {
     digits.iter().fold(0, |n: usize, b| {
         n.saturating_mul(10)
@@ -39,6 +39,7 @@ fn main(rt: HostRuntime) -> anyhow::Result<()> {
     rt.stdin().take(4_000_000).read_to_end(&mut given)?;
     let mut all: Vec<u8> = Vec::new(heap);
     let mut rest = given.as_slice();
+    // At most 1,000 cases.
     for _ in 0..1000 {
         let Some((head, behind)) = rest.split_at_checked(13) else {
             break;

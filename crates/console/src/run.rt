@@ -5,8 +5,7 @@ ghost use Rattle.console.specs.Printing.{Prints};
 use crate::print::printed;
 use runner::choice::Choice;
 use std::alloc::Global;
-use std::io;
-use std::io::{Read, Write};
+use std::io::{self, Read, Write};
 
 // The first 65,536 bytes of the input.
 fn read_sheet<R: Read + Drop>(alloc: Global, input: R) -> io::Result<Vec<u8>>

@@ -15,7 +15,7 @@ fn main(rt: HostRuntime) -> anyhow::Result<()> {
     let args: Vec<String> = env::args(&rt)?.skip(1).collect(heap)?;
     let words: Vec<&str> = args.iter().map(|word| word.as_str()).collect(heap)?;
     let Some(choice) = chosen(&words) else {
-        println!(rt; "{}", USAGE)?;
+        println!(rt; "{USAGE}")?;
         return Ok(());
     };
     run(heap, choice, rt.stdin(), &mut rt.stdout())?;
