@@ -24,6 +24,7 @@ struct Rank {
 }
 
 /// A slot's turn: what is held comes by its rank, and an unused slot after all others.
+// Stays: a bool beside the rank: the derived order puts `None` before every `Some`, and an enum for the two would be an `Option` again.
 fn turn_of(slot: &Option<Message>) -> (bool, Option<Rank>)
     ensures { result ≡ turn_of slot.now }
 {

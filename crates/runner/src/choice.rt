@@ -34,7 +34,7 @@ pub fn rehearse_by<'a>(
     ensures rehearsed { Rehearsed sheet.now [] (room_of choice (length cells.old)) (content memory.old) (content memory.new) result }
     ensures lent { SameLenders memory.old memory.new }
 {
-    // Stays: a `&mut dyn Channel` that the form would choose does not meet `C: Channel` ("?Sized is not supported yet").
+    // Stays: tried with a `&mut dyn Channel` that the form would choose: it does not check ("expected `&mut _`, found `&mut dyn Channel`", "a `dyn` type cannot stand for a type parameter yet").
     match choice {
         Choice::Queue => rehearse(Queue::new(cells), sheet, memory),
         Choice::Slots => rehearse(Slots::new(), sheet, memory),
