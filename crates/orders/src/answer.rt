@@ -31,9 +31,9 @@ pub enum Refusal {
 #[derive(Debug, Clone, Copy, PartialEq, Eq)]
 pub struct Ending {
     pub client: u8,
+    pub rounds: u8,
     pub version: u32,
     pub value: i32,
-    pub rounds: u8,
 }
 
 /// What one call came to.

@@ -30,10 +30,10 @@ pub struct Receipt {
 #[derive(Debug, Clone, Copy, PartialEq, Eq, Default)]
 pub struct Reading {
     pub replica: u8,
+    pub marks: u8,
     pub version: u32,
     pub value: i32,
     pub previous: i32,
-    pub marks: u8,
     pub note: u32,
 }
 

@@ -8,10 +8,10 @@ pub struct Message {
     pub kind: u8,
     pub replica: u8,
     pub client: u8,
+    pub marks: u8,
     pub round: u32,
     pub version: u32,
     pub value: i32,
     pub previous: i32,
-    pub marks: u8,
     pub note: u32,
 }
