@@ -1,10 +1,14 @@
 -- One slot filled or freed, and a search over the slots.
-use Rattle.std.proofs.Common.{◌≡◌, ℕ, zero, suc, ◌+◌, ◌<◌, true, false, cond, List, [], ◌∷◌, length, get_or, set, is_none, MatchOption, Some, None, Option, refl, le_of_suc-le-suc, not-suc-le-zero, arith}
+use Rattle.std.proofs.Common.{◌≡◌, ℕ, zero, suc, ◌+◌, ◌<◌, Bool, sym, ap, ◌∙◌, inl, inr, true, false, cond, List, [], ◌∷◌, length, get_or, set, is_none, MatchOption, Some, None, Option, refl, le_of_suc-le-suc, not-suc-le-zero, arith}
 use Rattle.std.specs.List.Sorted.{IsPermutation}
 use Rattle.std.proofs.lemmas.List.Sorted.{IsPermutation-refl, IsPermutation-cons, IsPermutation-trans}
 use Rattle.std.specs.List.{count_by, All, AllWithin, HoldsAt}
 use Rattle.std.proofs.lemmas.List.Recursion.{is_count_by}
-use Rattle.channels.specs.Slots.{somes, gaps}
+use Rattle.std.proofs.lemmas.Bool.{cases_lt, cases_Bool}
+use mathlib.Core.Path.{subst⁻¹}
+use Rattle.std.proofs.lemmas.Bool.Decides.{nat_tests}
+use Rattle.wire.specs.declared.message.Message.{Message}
+use Rattle.channels.specs.Slots.{somes, gaps, lower, NoLower, Found, pick}
 use Rattle.std.proofs.lemmas.List.Sorted.{IsPermutation-middle}
 
 module _ {M : Type 0} where
@@ -68,3 +72,29 @@ module _ {M : Type 0} where
   none_held [] h = refl
   none_held (None ∷ xs) h = none_held xs (λ k l. h (suc k) (omega arith))
   none_held (Some x ∷ xs) h = let e = h 0 (omega arith) in cc
+
+lower_self : (m : Message) → lower m m ≡ false
+lower_self m = grind (arith, nat_tests)
+
+lower_on : (x m p : Message) → lower m p ≡ true → lower x p ≡ false → lower x m ≡ false
+lower_on x m p a b = grind (arith, nat_tests)
+
+-- what holds of each slot below i, and of i
+next_slot : (xs : List (Option Message)) (i : ℕ) (m : Message) (s : Option Message) → s ≡ get_or xs i None → NoLower xs i m → ((x : Message) → s ≡ Some x → lower x m ≡ false) → NoLower xs (i + 1) m
+next_slot xs i m s e low here k x h r =
+    elim (cases_lt k i) [
+      | inl lt ↦ low k x lt r
+      | inr ge ↦ let at : k ≡ i = omega arith in here x (e ∙ sym (ap (λ j. get_or xs j None) at) ∙ r)
+    ]
+
+pub found_more : (xs : List (Option Message)) (i : ℕ) (best : Option (ℕ × Message)) (s : Option Message) → s ≡ get_or xs i None → Found xs i best → Found xs (i + 1) (pick best i s)
+found_more xs i None None e f = λ k h. elim (cases_lt k i) [ inl lt ↦ f k lt | inr ge ↦ let at : k ≡ i = omega arith in ap (λ j. get_or xs j None) at ∙ sym e ]
+found_more xs i (Some p) None e (h, r, low) = (omega arith, r, next_slot xs i p.1 None e low (λ x q. cc))
+found_more xs i None (Some m) e f =
+    (omega arith, sym e, next_slot xs i m (Some m) e (λ k x h r. let n = f k h in cc) (λ x q. let same : m ≡ x = cc in rw (← same) (lower_self m)))
+found_more xs i (Some p) (Some m) e (h, r, low) =
+    let next : Bool → Type 0 = λ b. Found xs (i + 1) (cond b (Some (i, m)) (Some p)) in
+    elim (cases_Bool (lower m p.1)) [
+      | inl t ↦ subst⁻¹ next t (omega arith, sym e, next_slot xs i m (Some m) e (λ k x l q. lower_on x m p.1 t (low k x l q)) (λ x q. let same : m ≡ x = cc in rw (← same) (lower_self m)))
+      | inr t ↦ subst⁻¹ next t (omega arith, r, next_slot xs i p.1 (Some m) e low (λ x q. let same : m ≡ x = cc in rw (← same) t))
+    ]

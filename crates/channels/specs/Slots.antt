@@ -1,7 +1,6 @@
 -- What a table of slots holds.
-use Rattle.std.specs.Prelude.{◌≡◌, ℕ, suc, ◌<◌, Bool, true, false, ◌&&◌, ◌||◌, List, [], ◌∷◌, length, Some, None, Option, ◌==◌, nat_lt, slice_index_or}
+use Rattle.std.specs.Prelude.{◌≡◌, ℕ, suc, ◌<◌, Bool, false, cond, ◌&&◌, ◌||◌, List, [], ◌∷◌, length, Some, None, Option, ◌==◌, nat_lt, slice_index_or}
 use Rattle.wire.specs.declared.message.Message.{Message}
-use Rattle.channels.specs.declared.slots.Rank.{Rank}
 
 module _ {M : Type 0} where
   -- the messages in the slots
@@ -32,10 +31,11 @@ abbrev pub Lowest : List (Option Message) → Option Message → Type 0
 Lowest xs None = Unit {0}
 Lowest xs (Some m) = NoLower xs (length xs) m
 
--- a slot's turn: its message's rank; an unused slot's comes after all others
-abbrev pub turn_of : Option Message → Bool × Option Rank
-turn_of None = (true, None)
-turn_of (Some m) = (false, Some (record { round = m.round; replica = m.replica; client = m.client; kind = m.kind }))
+-- the lower of what was found so far and what lies in the slot i, the first of equals
+abbrev pub pick : Option (ℕ × Message) → ℕ → Option Message → Option (ℕ × Message)
+pick best i None = best
+pick None i (Some m) = Some (i, m)
+pick (Some p) i (Some m) = cond (lower m p.1) (Some (i, m)) (Some p)
 
 -- what a search for a lowest message has found in the slots below n
 abbrev pub Found : List (Option Message) → ℕ → Option (ℕ × Message) → Type 0

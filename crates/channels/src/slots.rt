@@ -1,7 +1,7 @@
 //! The slot channel: a table of 256 slots of its own, which gives the lowest message.
 ghost use Rattle.std.specs.Prelude.{◌≡◌, ℕ, ◌<◌, ◌≤◌, [], length, None, MatchOption, slice_index_or};
 ghost use Rattle.wire.specs.Channel.{Taken};
-ghost use Rattle.channels.specs.Slots.{somes, gaps, Lowest, Found, turn_of};
+ghost use Rattle.channels.specs.Slots.{somes, gaps, lower, Lowest, Found, pick};
 
 use wire::channel::{Channel, Full};
 use wire::message::Message;
@@ -14,27 +14,11 @@ pub struct Slots {
     ghost long: { length table ≡ 256 },
 }
 
-/// What a message's turn goes by, the first field first.
-#[derive(Clone, Copy, PartialEq, Eq, PartialOrd, Ord)]
-struct Rank {
-    round: u32,
-    replica: u8,
-    client: u8,
-    kind: u8,
-}
-
-/// A slot's turn: what is held comes by its rank, and an unused slot after all others.
-// Stays: a bool beside the rank: the derived order puts `None` before every `Some`, and an enum for the two would be an `Option` again.
-fn turn_of(slot: &Option<Message>) -> (bool, Option<Rank>)
-    ensures { result ≡ turn_of slot.now }
+// Does a come before b: by round, then replica, then client, then kind?
+fn lower(a: &Message, b: &Message) -> bool
+    ensures { result ≡ lower a.now b.now }
 {
-    let rank = slot.map(|m| Rank {
-        round: m.round,
-        replica: m.replica,
-        client: m.client,
-        kind: m.kind,
-    });
-    (rank.is_none(), rank)
+    (a.round, a.replica, a.client, a.kind) < (b.round, b.replica, b.client, b.kind)
 }
 
 // The first slot that is unused.
@@ -54,13 +38,32 @@ fn count_unused(table: &[Option<Message>]) -> usize
     table.iter().filter(|s| s.is_none()).count()
 }
 
+// The lower of what was found so far and what lies in the slot i, the first of equals.
+// Inlined, as `lowest` is: what is found then stays in registers also where a layer takes from the table.
+#[inline(always)]
+fn better(
+    best: Option<(usize, Message)>,
+    i: usize,
+    slot: &Option<Message>,
+) -> Option<(usize, Message)>
+    ensures { result ≡ pick best i slot.now }
+{
+    match slot {
+        Some(m) if best.is_none_or(|b| lower(m, &b.1)) => Some((i, *m)),
+        _ => best,
+    }
+}
+
 // Where a lowest message lies, with that message.
+#[inline(always)]
 fn lowest(table: &[Option<Message>]) -> Option<(usize, Message)>
     ensures { Found table.now (length table.now) result }
 {
-    let (i, slot) = table.iter().enumerate().min_by_key(|p| turn_of(p.1))?;
-    let m = (*slot)?;
-    Some((i, m))
+    let mut best: Option<(usize, Message)> = None;
+    for (i, slot) in table.iter().enumerate() {
+        best = better(best, i, slot);
+    }
+    best
 }
 
 impl Slots {
