@@ -26,7 +26,7 @@ impl From<Row> for Replica {
     }
 }
 
-/// The row to write back.
+/// What a record holds, as a row.
 impl From<Replica> for Row {
     ghost from_gives = { λ r row. row ≡ plain r };
 
@@ -44,6 +44,21 @@ impl From<Replica> for Row {
 }
 
 impl Replica {
+    /// A replica's record as it opens.
+    pub fn open(initial: i32) -> Replica
+        ensures { plain result ≡ opened_row initial }
+    {
+        Replica {
+            version: 0,
+            value: initial,
+            previous: initial,
+            marks: 0,
+            note: 0,
+            // no round of any client heard yet
+            rounds: [0u32; 65],
+        }
+    }
+
     // A fresh request: its round is recorded, and what it brings is taken.
     fn take(&mut self, kind: Kind, m: Message)
         requires client { m.client < 65 }
@@ -97,19 +112,11 @@ impl Replica {
 }
 
 impl Row {
-    /// A replica as it opens.
+    /// A replica's row as it opens: that of the record.
     pub fn open(initial: i32) -> Row
         ensures { result ≡ opened_row initial }
     {
-        Row {
-            version: 0,
-            value: initial,
-            previous: initial,
-            marks: 0,
-            note: 0,
-            // Stays: the product's rules name this form: the rounds open as an array of 65 zeros.
-            rounds: [0u32; 65],
-        }
+        Replica::open(initial).into()
     }
 
     /// One message at this row: its record is made, stepped and written back.
@@ -118,9 +125,18 @@ impl Row {
         ensures after { self.new ≡ delivered self.old m }
         ensures reply { result ≡ delivered_reply self.old m }
     {
+        let client = usize::from(m.client);
         let mut record = Replica::from(*self);
         let reply = record.step(m);
-        *self = record.into();
+        self.version = record.version;
+        self.value = record.value;
+        self.previous = record.previous;
+        self.marks = record.marks;
+        self.note = record.note;
+        // Of the rounds only the client's can be another, so the 64 others are not copied back.
+        if let Some(round) = record.rounds.get(client) {
+            self.rounds[client] = *round;
+        }
         reply
     }
 }
