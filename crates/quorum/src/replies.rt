@@ -36,6 +36,8 @@ impl<T: Slip + Default + Copy> Replies<T> {
 
 impl<T: Slip + Drop> Replies<T> {
     /// Counts a slip of a replica that is not counted yet.
+    // Inlined, since the slip would else go through memory.
+    #[inline(always)]
     pub fn add(&mut self, s: T) -> bool
         ensures said { result ≡ adds T.sent_by self.old.slips self.old.got s }
         ensures after { self.new ≡ with_slip T.sent_by self.old s }

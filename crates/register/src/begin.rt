@@ -11,6 +11,8 @@ use wire::channel::Channel;
 impl Register {
     /// Starts the round and puts out its set of messages. count: how many these are, S, or 3t + 1 for a tell.
     #[tactic(auto, using(crate::proofs::Sends::length_put_out))]
+    // Inlined, so that the message of a set stays in registers.
+    #[inline(always)]
     pub(crate) fn begin<C: Channel>(&mut self, c: &mut C, round: Round, count: u8)
         requires client { named (order_of round) < 65 }
         requires count { count ≡ count_of self.old.settings round }

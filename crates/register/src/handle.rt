@@ -10,6 +10,8 @@ use wire::message::Message;
 impl Register {
     /// Handles any message in any state; the reply of a replica, if any, is the caller's to send. `Dropped` where no such kind,
     /// replica or client is, `Lost` where the one addressed is out.
+    // Inlined, since its result would else go through memory at each carry.
+    #[inline(always)]
     pub fn handle(&mut self, m: Message) -> (Answer, Option<Message>)
         ensures after { self.new ≡ handled self.old m }
         ensures answer { result.0 ≡ handled_answer self.old m }

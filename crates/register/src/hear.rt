@@ -27,6 +27,8 @@ fn ended(client: u8, version: u32, value: i32, rounds: u8) -> Answer
 impl Phase {
     // Counts a reply of the awaited kind, once per replica, in place.
     // Stays: the product's rules name this form: a match on the client's phase and the message's kind.
+    // Inlined, as `is_complete` and `hear` are, so that a carry counts a reply with no call between.
+    #[inline(always)]
     fn count(&mut self, m: Message) -> bool
         ensures said { result ≡ (m.kind == awaited self.old && uncounted self.old m) }
         ensures after { self.new ≡ (if result then joined self.old m else self.old) }
@@ -40,6 +42,7 @@ impl Phase {
     }
 
     // Is the round complete?
+    #[inline(always)]
     fn is_complete(&self, k: &Checked) -> bool
         ensures { result ≡ is_complete k.now self.now }
     {
@@ -109,6 +112,7 @@ impl Client {
     }
 
     // One reply.
+    #[inline(always)]
     pub(crate) fn hear(&mut self, k: &Checked, m: Message) -> Answer
         ensures after { self.new ≡ heard k.now self.old m }
         ensures said { result ≡ heard_answer k.now self.old m }

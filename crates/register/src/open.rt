@@ -14,6 +14,8 @@ use wire::channel::Channel;
 
 impl Client {
     // A client as it opens.
+    // Not inlined, since the table of clients is then filled by whole copies, and not cleared first.
+    #[inline(never)]
     pub(crate) fn open(initial: i32) -> Client
         ensures { result ≡ opened_client initial }
     {

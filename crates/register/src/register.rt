@@ -8,14 +8,16 @@ use replica::row::Row;
 #[derive(Drop)]
 pub struct Register {
     pub(crate) settings: Checked,
+    /// the writer at 0, reader c at c; the first R + 1 are in use
+    // Here, with no padding before or behind it: with padding the whole table is cleared and moved once more when a register
+    // is made.
+    pub(crate) clients: [Client; 65],
+    /// what each replica holds; the first S are in use
+    pub(crate) rows: [Row; 32],
     /// how many replicas are out
     // Stays: no plainer to count them in the table at each withdrawal, which asks for the number alone.
     pub(crate) outs: u8,
     /// which replicas are out; the first S are in use
     // Stays: a table beside the rows: the delivery step is lent what a replica holds, and a struct of both would only be taken apart there.
     pub(crate) out: [bool; 32],
-    /// what each replica holds; the first S are in use
-    pub(crate) rows: [Row; 32],
-    /// the writer at 0, reader c at c; the first R + 1 are in use
-    pub(crate) clients: [Client; 65],
 }

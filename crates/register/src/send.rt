@@ -23,6 +23,8 @@ fn to_replica(m: Message, b: u8) -> Message
 /// Puts in the message once for each of the replicas 0 to count - 1.
 // Stays: `waiting` and `places` stand here, in `begin` and in `put_reply`: one definition of both would be no plainer than two short clauses
 // that proofs take by their names.
+// Inlined, so that the channel's `put` is known in the loop.
+#[inline(always)]
 pub(crate) fn send<C: Channel>(c: &mut C, m: Message, count: u8)
     requires { count ≤ C.places c.old }
     ensures waiting { IsPermutation (C.held c.new) (copies m count ++ C.held c.old) }

@@ -3,6 +3,7 @@ ghost use Rattle.std.specs.Prelude.{◌≡◌, ◌≤◌, length, take, drop, Ma
 ghost use Rattle.register.specs.Past.{world};
 ghost use Rattle.register.specs.Session.{Session, NoSession};
 
+use crate::check::check;
 use crate::fault::RegisterFault;
 use crate::register::Register;
 use orders::answer::Answer;
@@ -24,7 +25,9 @@ pub fn open_and_run<C: Channel>(
         × (length orders.now ≤ length answers.old))
         (λ e. NoSession s (C.held c.old) (C.places c.old) (length orders.now) (length answers.old) e × (answers.new ≡ answers.old) × (c.new ≡ c.old)) }
 {
-    let mut register = Register::open(s, c)?;
+    // Not by `open`: its result would have to be taken apart, which moves the table of clients once more.
+    let settings = check(s, c)?;
+    let mut register = Register::make(settings);
     register.run(c, orders, answers)?;
     Ok(register)
 }
