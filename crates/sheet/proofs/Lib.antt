@@ -15,3 +15,4 @@ pub mod Exact
 pub mod Verdict
 pub mod Single
 pub mod Lines
+pub mod Digits

@@ -1,5 +1,5 @@
 -- The bytes of a listing, and what it means to write some of them after others.
-use Rattle.std.specs.Prelude.{◌≡◌, ℕ, ◌+◌, ◌<◌, ◌≤◌, Bool, true, false, List, [], ◌++◌, length, take, decimal}
+use Rattle.std.specs.Prelude.{◌≡◌, ℕ, ◌+◌, ◌<◌, ◌≤◌, Bool, true, false, List, [], ◌++◌, length, take, pos, decimal}
 use Rattle.std.specs.Fmt.{signed_decimal}
 use Rattle.std.specs.List.{flat_map}
 use Rattle.orders.specs.Answers.{listed_as}
@@ -15,6 +15,10 @@ end_of l = closed (decimal l.version) 32 ++ (closed (signed_decimal l.value) 32 
 -- a line: code, who, version, value and rounds, a space between each two, and a line end
 abbrev pub line_of : Listed → List ℕ
 line_of l = closed (decimal l.code) 32 ++ (closed (decimal l.who) 32 ++ end_of l)
+
+-- an answer that shows no version, value and rounds
+abbrev pub plain_answer : ℕ → ℕ → Listed
+plain_answer code who = record { code = code; who = who; version = 0; value = pos 0; rounds = 0 }
 
 -- a listing: a line for each answer
 abbrev pub listing_of : List Answer → List ℕ

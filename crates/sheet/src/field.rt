@@ -9,6 +9,8 @@ use crate::number::{fixed_in, number_in, value_in};
 
 impl<'a> Cursor<'a> {
     // What the next word is judged to be, with the separator behind it.
+    // Inlined, as `value` is, since its result would else go through memory at each word.
+    #[inline(always)]
     pub(crate) fn field<T: Drop, F: FnOnce(&'a [u8], u32) -> Result<T, SheetFault<'a>>>(
         &mut self,
         judge: F,
@@ -33,6 +35,7 @@ impl<'a> Cursor<'a> {
     }
 
     // A value.
+    #[inline(always)]
     pub(crate) fn value(&mut self, separator: u8) -> Result<i32, SheetFault<'a>>
         requires early { self.old.line < 2 ^ 31 }
         ensures { Stepped SmallValue (value_words separator) self.old.rest.now self.old.line self.new.rest.now self.new.line result }

@@ -1,9 +1,9 @@
 //! The listing writer: whole lines, or none of a line that does not fit.
-ghost use Rattle.std.specs.Prelude.{◌≡◌, is_ok, IfErr, if◌then◌else◌, MatchResult};
+ghost use Rattle.std.specs.Prelude.{◌≡◌, ◌+◌, ◌<◌, decimal, is_ok, IfErr, if◌then◌else◌, MatchResult};
 ghost use Rattle.sheet.specs.declared.fault.SheetFault.TheVariants.{Listing};
 ghost use Rattle.sheet.specs.Shown.{shown};
 ghost use Rattle.sheet.specs.Words.{closed};
-ghost use Rattle.sheet.specs.Listing.{Put, Lined, line_of, Written, CutShort};
+ghost use Rattle.sheet.specs.Listing.{Put, Lined, plain_answer, line_of, Written, CutShort};
 
 use crate::fault::SheetFault;
 use itoa::{Buffer, Integer};
@@ -17,6 +17,14 @@ struct Full;
 #[derive(Clone, Copy)]
 pub struct Position {
     pub len: usize,
+}
+
+// The digit of a number below 10.
+fn digit(n: u32) -> u8
+    requires { n < 10 }
+    ensures { result ≡ 48 + n }
+{
+    b'0' + n as u8
 }
 
 impl Position {
@@ -40,14 +48,59 @@ impl Position {
         self.bytes(out, &[separator])
     }
 
+    // A number and its separator. Most are short, and a buffer for any number costs a short one several times as much.
+    // Inlined, as `plain` and `line` are, so that a line goes from its answer to the space with no call between.
+    #[inline(always)]
+    fn number(&mut self, out: &mut [u8], n: u32, separator: u8) -> Result<(), Full>
+        ensures { Put out.old self.old.len out.new self.new.len (closed (decimal n) separator) (is_ok result) }
+    {
+        if n < 10 {
+            return self.bytes(out, &[digit(n), separator]);
+        }
+        if n < 100 {
+            return self.bytes(out, &[digit(n / 10), digit(n % 10), separator]);
+        }
+        self.closed(out, n, separator)
+    }
+
+    // A line that shows no version, value and rounds, as most do. With a code from 100 to 109 and a short who it is one array,
+    // which costs less than its words one by one.
+    #[inline(always)]
+    fn plain(&mut self, out: &mut [u8], code: u32, who: u32) -> Result<(), Full>
+        ensures { Put out.old self.old.len out.new self.new.len (line_of (plain_answer code who)) (is_ok result) }
+    {
+        if code >= 100 && code < 110 && who < 100 {
+            let last = digit(code - 100);
+            if who < 10 {
+                let one = digit(who);
+                let text = [
+                    b'1', b'0', last, b' ', one, b' ', b'0', b' ', b'0', b' ', b'0', b'\n',
+                ];
+                return self.bytes(out, &text);
+            }
+            let (ten, one) = (digit(who / 10), digit(who % 10));
+            let text = [
+                b'1', b'0', last, b' ', ten, one, b' ', b'0', b' ', b'0', b' ', b'0', b'\n',
+            ];
+            return self.bytes(out, &text);
+        }
+        self.number(out, code, b' ')?;
+        self.number(out, who, b' ')?;
+        self.bytes(out, b"0 0 0\n")
+    }
+
+    #[inline(always)]
     fn line(&mut self, out: &mut [u8], l: Listed) -> Result<(), Full>
         ensures { Put out.old self.old.len out.new self.new.len (line_of l) (is_ok result) }
     {
-        self.closed(out, l.code, b' ')?;
-        self.closed(out, l.who, b' ')?;
-        self.closed(out, l.version, b' ')?;
+        if l.version == 0 && l.value == 0 && l.rounds == 0 {
+            return self.plain(out, l.code, l.who);
+        }
+        self.number(out, l.code, b' ')?;
+        self.number(out, l.who, b' ')?;
+        self.number(out, l.version, b' ')?;
         self.closed(out, l.value, b' ')?;
-        self.closed(out, l.rounds, b'\n')
+        self.number(out, l.rounds, b'\n')
     }
 }
 
