@@ -3,7 +3,7 @@
 //! its length in six digits. What it prints comes after a line with a dash.
 #![tactic(auto)]
 
-use console::print::printed;
+use console::print::print;
 use runner::choice::Choice;
 use std::io::{Read, Write};
 
@@ -47,7 +47,7 @@ fn main(rt: HostRuntime) -> anyhow::Result<()> {
         let len = number(head.get(7..).unwrap_or(b""));
         let (sheet, next) = behind.split_at_checked(len).unwrap_or((b"", b""));
         all.extend_from_slice(b"-\n")?;
-        all.extend_from_slice(&printed(heap, choice(head), sheet)?)?;
+        print(heap, choice(head), sheet, &mut all)?;
         rest = next;
     }
     rt.stdout().write_all(&all)?;

@@ -1,18 +1,52 @@
 //! One sheet: rehearsed, and what is printed of it.
-ghost use Rattle.std.specs.Prelude.{IfOk};
-ghost use Rattle.console.specs.Printing.{Told};
+ghost use Rattle.std.specs.Prelude.{◌≡◌, OnOk, Err, [], length};
+ghost use Rattle.std.specs.Io.KnownBytes.{Appends};
+ghost use Rattle.console.specs.Printing.{told, Prints};
 
 use orders::answer::Answer;
 use orders::order::Order;
 use runner::choice::{Choice, rehearse_by};
+use runner::fault::DrillFault;
 use runner::memory::Memory;
 use sheet::listing::Position;
-use std::alloc::{AllocError, Global};
+use std::alloc::Global;
+use std::io::{self, Write};
 use wire::message::Message;
 
-/// Rehearses the sheet over a new channel, and gives its listing, or a line with the fault.
-pub fn printed(alloc: Global, choice: Choice, sheet: &[u8]) -> Result<Vec<u8>, AllocError>
-    ensures { IfOk result (λ text. Told choice sheet.now text.items) }
+// A line with the fault.
+fn write_fault<W: Write>(alloc: Global, fault: DrillFault, w: &mut W) -> io::Result<()>
+    ensures { OnOk result (Appends (W.contents w.old) (W.contents w.new) (told (Err fault.entry) [])) }
+{
+    let line = format!(in alloc; "{fault}\n")?;
+    w.write_all(line.as_bytes())
+}
+
+// Rehearses the sheet in the memory lent, and writes what comes of it.
+#[tactic(auto, using(crate::proofs::Printing::prints, crate::proofs::Printing::tells))]
+fn write_outcome<W: Write>(
+    alloc: Global,
+    choice: Choice,
+    cells: &mut [Message],
+    sheet: &[u8],
+    memory: &mut Memory,
+    w: &mut W,
+) -> io::Result<()>
+    requires cells { length cells.old ≡ 1024 }
+    requires orders { length memory.old.orders.now ≡ 4096 }
+    requires answers { length memory.old.answers.now ≡ 4096 }
+    requires out { length memory.old.out.now ≡ 65536 }
+    ensures { OnOk result (Prints choice sheet.now (W.contents w.old) (W.contents w.new)) }
+{
+    match rehearse_by(choice, cells, sheet, memory) {
+        Ok(n) => w.write_all(&memory.out[..n]),
+        Err(fault) => write_fault(alloc, fault, w),
+    }
+}
+
+/// Rehearses the sheet over a new channel, and writes its listing, or a line with the fault. An error is of memory, or of the
+/// writer, which may then hold a part.
+pub fn print<W: Write>(alloc: Global, choice: Choice, sheet: &[u8], w: &mut W) -> io::Result<()>
+    ensures { OnOk result (Prints choice sheet.now (W.contents w.old) (W.contents w.new)) }
 {
     let mut cells = vec![in alloc; Message::default(); 1024]?;
     let mut orders = vec![in alloc; Order::Carry; 4096]?;
@@ -25,8 +59,5 @@ pub fn printed(alloc: Global, choice: Choice, sheet: &[u8]) -> Result<Vec<u8>, A
         out: &mut out,
         at: &mut at,
     };
-    match rehearse_by(choice, &mut cells, sheet, &mut memory) {
-        Ok(n) => Vec::from_slice(alloc, &memory.out[..n]),
-        Err(fault) => Ok(format!(in alloc; "{fault}\n")?.into_bytes()),
-    }
+    write_outcome(alloc, choice, &mut cells, sheet, &mut memory, w)
 }

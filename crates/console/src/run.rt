@@ -2,7 +2,7 @@
 ghost use Rattle.std.specs.Prelude.{◌≡◌, ℕ, List, take, IfOk, IfSome, OnOk};
 ghost use Rattle.console.specs.Printing.{Prints};
 
-use crate::print::printed;
+use crate::print::print;
 use runner::choice::Choice;
 use std::alloc::Global;
 use std::io::{self, Read, Write};
@@ -17,7 +17,7 @@ fn read_sheet<R: Read + Drop>(alloc: Global, input: R) -> io::Result<Vec<u8>>
 }
 
 /// Takes the first 65,536 bytes of the input for the sheet. An error is of memory, or of the input or the writer.
-#[tactic(auto, using(crate::proofs::Printing::prints))]
+#[tactic(auto, using(crate::proofs::Printing::prints_of))]
 pub fn run<R: Read + Drop, W: Write>(
     alloc: Global,
     choice: Choice,
@@ -27,5 +27,5 @@ pub fn run<R: Read + Drop, W: Write>(
     ensures { OnOk result (IfSome (R.remaining input) (λ given. Prints choice (take 65536 given) (W.contents w.old) (W.contents w.new))) }
 {
     let sheet = read_sheet(alloc, input)?;
-    w.write_all(&printed(alloc, choice, &sheet)?)
+    print(alloc, choice, &sheet, w)
 }

@@ -1,8 +1,8 @@
-//! What is printed of a sheet that is run, and of one that is refused.
-use crate::print::printed;
+//! What is printed of a sheet that is run, of one that is refused, and of one over layers that delay a replica.
+use crate::print::print;
 use crate::run::run;
 use runner::choice::Choice;
-use std::alloc::AllocError;
+use std::alloc::Global;
 use std::io;
 
 #[test]
@@ -24,9 +24,43 @@ fn a_fault(rt: HostRuntime) -> io::Result<()> {
 }
 
 #[test]
-fn a_sheet_printed(rt: HostRuntime) -> Result<(), AllocError> {
+fn a_sheet_printed(rt: HostRuntime) -> io::Result<()> {
     let sheet: &[u8] = b"settings 5\n4 1 1 1 1000\norders 2\nw 1200\nw 5\n";
-    let text = printed(rt.alloc(), Choice::Slots, sheet)?;
+    let mut text: Vec<u8> = Vec::new(rt.alloc());
+    print(rt.alloc(), Choice::Slots, sheet, &mut text)?;
     assert!(rt; text.as_slice() == b"100 0 0 0 0\n13 0 0 0 0\n".as_slice());
+    Ok(())
+}
+
+// A write while replica 2 is out: its message shows in the listing where it is carried.
+const ONE_OUT: &[u8] =
+    b"settings 5\n4 1 1 1 1000\norders 11\nw 7\nb 2\nc\nc\nc\nc\nc\nc\nc\nc\nc\n";
+
+// Is this what is printed of that sheet over a channel?
+fn gives(alloc: Global, choice: Choice, listing: &[u8]) -> io::Result<bool> {
+    let mut text: Vec<u8> = Vec::new(alloc);
+    print(alloc, choice, ONE_OUT, &mut text)?;
+    Ok(text.as_slice() == listing)
+}
+
+#[test]
+fn a_layer_delays_the_replica_named(rt: HostRuntime) -> io::Result<()> {
+    let two: &[u8] =
+        b"100 0 0 0 0\n100 2 0 0 0\n101 0 0 0 0\n101 0 0 0 0\n101 0 0 0 0\n104 0 0 0 0\n104 0 0 0 0\n105 0 1 7 1\n102 0 0 0 0\n18 0 0 0 0\n18 0 0 0 0\n";
+    let holds = gives(rt.alloc(), Choice::DelayQueue(2), two)?;
+    assert!(rt; holds);
+    Ok(())
+}
+
+// The upper layer is named first: the one listing comes with no other lower layer, the other with no other upper one.
+#[test]
+fn two_layers_delay_the_replicas_named(rt: HostRuntime) -> io::Result<()> {
+    let lower_two: &[u8] =
+        b"100 0 0 0 0\n100 2 0 0 0\n101 0 0 0 0\n101 0 0 0 0\n104 0 0 0 0\n104 0 0 0 0\n102 0 0 0 0\n101 0 0 0 0\n105 0 1 7 1\n18 0 0 0 0\n18 0 0 0 0\n";
+    let upper_two: &[u8] =
+        b"100 0 0 0 0\n100 2 0 0 0\n101 0 0 0 0\n101 0 0 0 0\n104 0 0 0 0\n104 0 0 0 0\n101 0 0 0 0\n105 0 1 7 1\n102 0 0 0 0\n18 0 0 0 0\n18 0 0 0 0\n";
+    let lower = gives(rt.alloc(), Choice::DelayTwice(1, 2), lower_two)?;
+    let upper = gives(rt.alloc(), Choice::DelayTwice(2, 1), upper_two)?;
+    assert!(rt; lower && upper);
     Ok(())
 }
