@@ -8,7 +8,7 @@ use Rattle.std.proofs.lemmas.Bool.{cases_lt, cases_Bool}
 use mathlib.Core.Path.{subst⁻¹}
 use Rattle.std.proofs.lemmas.Bool.Decides.{nat_tests}
 use Rattle.wire.specs.declared.message.Message.{Message}
-use Rattle.channels.specs.Slots.{somes, gaps, lower, NoLower, Found, pick}
+use Rattle.channels.specs.Table.{somes, gaps, lower, NoLower, Found, pick}
 use Rattle.std.proofs.lemmas.List.Sorted.{IsPermutation-middle}
 
 module _ {M : Type 0} where

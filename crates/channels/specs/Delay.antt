@@ -1,8 +1,10 @@
 -- What the delaying layer keeps back, where it puts a message, and what it gives.
-use Rattle.std.specs.Prelude.{◌≡◌, ℕ, ◌<◌, Bool, true, false, ◌&&◌, ◌⊎◌, List, [], ◌∷◌, ◌++◌, length, Some, Ok, Err, Option, Result, ◌==◌, nat_le, nat_lt}
+use Rattle.std.specs.Prelude.{◌≡◌, ℕ, ◌<◌, Bool, true, false, ◌&&◌, ◌⊎◌, List, [], ◌∷◌, ◌++◌, length, ◌+◌, ◌-◌, Some, Ok, Err, Option, Result, ◌==◌, nat_le, nat_lt}
 use Rattle.std.specs.List.Sorted.{IsPermutation}
 use Rattle.wire.specs.declared.message.Message.{Message}
-use Rattle.wire.specs.Channel.{Oldest}
+use Rattle.wire.specs.Channel.{Contents, holding}
+use Rattle.channels.specs.Queue.{Oldest}
+use Rattle.channels.specs.declared.delay.Delay.{Delay}
 
 -- a message of kind 1 to 3 to the delayed replica, while fewer than 64 are in the pocket
 abbrev pub is_later : ℕ → ℕ → Message → Bool
@@ -21,3 +23,16 @@ pub data Handed (replica : ℕ) : List Message → List Message → List Message
   given : (below below' pocket : List Message) (m : Message) → IsPermutation below (m ∷ below') → is_later replica (length pocket) m ≡ false → Handed replica below pocket below' pocket (Some m)
   delayed : (below below₁ pocket pocket₁ below' pocket' : List Message) (m : Message) (r : Option Message) → IsPermutation below (m ∷ below₁) → is_later replica (length pocket) m ≡ true → pocket₁ ≡ pocket ++ m ∷ [] → Handed replica below₁ pocket₁ below' pocket' r → Handed replica below pocket below' pocket' r
   last : (below below' pocket pocket' : List Message) (r : Option Message) → below ≡ [] → below' ≡ [] → Oldest pocket pocket' r → Handed replica below pocket below' pocket' r
+
+module _ {C : Type 0} (below : C → Contents) where
+  -- what a layer means: what is below, and its pocket of 64
+  abbrev pub layered : Delay C → Contents
+  layered d = holding ((below d.below).waiting ++ d.pocket.items) ((below d.below).free + (64 - length d.pocket.items))
+
+  -- where a message goes in
+  abbrev pub Enters : {U F : Type 0} → Delay C → Message → Delay C → Result U F → Type 0
+  Enters d m d' r = Entered (below d.below).free (below d.below).waiting d.pocket.items m (below d'.below).waiting d'.pocket.items r
+
+  -- what is given
+  abbrev pub Gives : Delay C → Delay C → Option Message → Type 0
+  Gives d d' r = Handed d.replica (below d.below).waiting d.pocket.items (below d'.below).waiting d'.pocket.items r

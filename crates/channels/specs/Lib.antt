@@ -1,2 +1,5 @@
+pub mod Ring
+pub mod Queue
+pub mod Table
 pub mod Slots
 pub mod Delay

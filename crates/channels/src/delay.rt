@@ -1,7 +1,6 @@
 //! The delaying layer: over any channel, it keeps what goes to one replica back in a pocket of 64.
-ghost use Rattle.std.specs.Prelude.{◌≡◌, ◌+◌, ◌-◌, ◌≤◌, [], ◌++◌, length};
+ghost use Rattle.std.specs.Prelude.{◌≡◌, ◌≤◌, [], length};
 ghost use Rattle.wire.specs.Channel.{Put, Taken};
-ghost use Rattle.channels.specs.Delay.{is_later, Entered, Handed};
 
 use arrayvec::ArrayVec;
 use wire::channel::{Channel, Full};
@@ -17,14 +16,9 @@ pub struct Delay<C> {
     ghost few: { length pocket.items ≤ 64 },
 }
 
-// Is the message kept back, with len in the pocket?
-fn is_later(m: &Message, replica: u8, len: usize) -> bool
-    ensures { result ≡ is_later replica len m.now }
-{
-    Kind::try_from(m.kind).is_ok_and(|k| k.is_request()) && m.replica == replica && len < 64
-}
-
 impl<C> Delay<C> {
+    ghost use Rattle.channels.specs.Delay.{is_later};
+
     /// The pocket is empty.
     pub fn new(below: C, replica: u8) -> Self
         ensures below { result.below ≡ below }
@@ -37,17 +31,26 @@ impl<C> Delay<C> {
             replica,
         }
     }
+
+    // Is the message kept back?
+    fn is_later(&self, m: &Message) -> bool
+        ensures { result ≡ is_later self.now.replica (length self.now.pocket.items) m.now }
+    {
+        Kind::try_from(m.kind).is_ok_and(|k| k.is_request())
+            && m.replica == self.replica
+            && self.pocket.len() < 64
+    }
 }
 
 impl<C: Channel> Channel for Delay<C> {
-    ghost held = { λ d. C.Channel.held d.below ++ d.pocket.items };
+    ghost use Rattle.channels.specs.Delay.{layered, Enters, Gives};
 
-    ghost places = { λ d. C.Channel.places d.below + (64 - length d.pocket.items) };
+    ghost contents = { layered C.Channel.contents };
 
     /// Below if a place is free there, else into the pocket.
     fn put(&mut self, m: Message) -> Result<(), Full>
-        ensures meets { Put (C.Channel.held self.old.below ++ self.old.pocket.items) (C.Channel.places self.old.below + (64 - length self.old.pocket.items)) m (C.Channel.held self.new.below ++ self.new.pocket.items) (C.Channel.places self.new.below + (64 - length self.new.pocket.items)) result }
-        ensures entered { Entered (C.Channel.places self.old.below) (C.Channel.held self.old.below) self.old.pocket.items m (C.Channel.held self.new.below) self.new.pocket.items result }
+        ensures meets { Put (layered C.Channel.contents self.old) m (layered C.Channel.contents self.new) result }
+        ensures entered { Enters C.Channel.contents self.old m self.new result }
         ensures replica { self.new.replica ≡ self.old.replica }
     {
         match self.below.put(m) {
@@ -58,12 +61,12 @@ impl<C: Channel> Channel for Delay<C> {
 
     /// From below, what is to be kept back going into the pocket; with nothing below, the pocket's oldest.
     fn take(&mut self) -> Option<Message>
-        ensures meets { Taken (C.Channel.held self.old.below ++ self.old.pocket.items) (C.Channel.places self.old.below + (64 - length self.old.pocket.items)) (C.Channel.held self.new.below ++ self.new.pocket.items) (C.Channel.places self.new.below + (64 - length self.new.pocket.items)) result }
-        ensures handed { Handed self.old.replica (C.Channel.held self.old.below) self.old.pocket.items (C.Channel.held self.new.below) self.new.pocket.items result }
+        ensures meets { Taken (layered C.Channel.contents self.old) (layered C.Channel.contents self.new) result }
+        ensures handed { Gives C.Channel.contents self.old self.new result }
         ensures replica { self.new.replica ≡ self.old.replica }
     {
         while let Some(m) = self.below.take() {
-            if !is_later(&m, self.replica, self.pocket.len()) {
+            if !self.is_later(&m) {
                 return Some(m);
             }
             self.pocket.push(m);

@@ -1,5 +1,6 @@
-//! Two more channels: a table of slots, and a layer that delays what goes to one replica.
+//! Three channels: a queue in lent memory, a table of slots, and a layer that delays what goes to one replica.
 #![tactic(auto)]
 
 pub mod delay;
+pub mod queue;
 pub mod slots;

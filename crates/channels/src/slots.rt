@@ -1,7 +1,6 @@
 //! The slot channel: a table of 256 slots of its own, which gives the lowest message.
 ghost use Rattle.std.specs.Prelude.{◌≡◌, ℕ, ◌<◌, ◌≤◌, [], length, None, MatchOption, slice_index_or};
-ghost use Rattle.wire.specs.Channel.{Taken};
-ghost use Rattle.channels.specs.Slots.{somes, gaps, lower, Lowest, Found, pick};
+ghost use Rattle.channels.specs.Table.{somes, gaps, lower, Lowest, Found, pick};
 
 use wire::channel::{Channel, Full};
 use wire::message::Message;
@@ -77,9 +76,10 @@ impl Slots {
 }
 
 impl Channel for Slots {
-    ghost held = { λ s. somes s.table };
+    ghost use Rattle.wire.specs.Channel.{Taken};
+    ghost use Rattle.channels.specs.Slots.{contents_of};
 
-    ghost places = { λ s. gaps s.table };
+    ghost contents = { contents_of };
 
     #[tactic(auto, using(crate::proofs::Slotted::filled_holds, crate::proofs::Slotted::filled_leaves))]
     fn put(&mut self, m: Message) -> Result<(), Full> {
@@ -91,7 +91,7 @@ impl Channel for Slots {
     /// It gives the lowest: none that waited is before it.
     #[tactic(auto, using(crate::proofs::Slotted::none_held, crate::proofs::Slotted::freed_holds, crate::proofs::Slotted::freed_leaves))]
     fn take(&mut self) -> Option<Message>
-        ensures meets { Taken (somes self.old.table) (gaps self.old.table) (somes self.new.table) (gaps self.new.table) result }
+        ensures meets { Taken (contents_of self.old) (contents_of self.new) result }
         ensures lowest { Lowest self.old.table result }
     {
         let (i, m) = lowest(&self.table)?;

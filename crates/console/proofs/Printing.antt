@@ -1,11 +1,14 @@
 -- What was read and what was written make what a program prints.
-use Rattle.std.proofs.Common.{◌≡◌, ℕ, List, [], length, take, Option, Some, None, Result, Ok, Err, IfSome, OnOk, subst}
+use Rattle.std.proofs.Common.{◌≡◌, ℕ, List, length, take, Option, Some, None, Result, Ok, Err, IfSome, OnOk, subst}
 use Rattle.std.specs.Io.KnownBytes.{Appends}
 use Rattle.std.specs.Option.{option_map}
 use Rattle.runner.specs.declared.fault.DrillFault.{DrillFault}
-use Rattle.runner.specs.Rehearsal.{Memory, Rehearsed, room_of}
+use Rattle.wire.specs.Channel.{empty}
+use Rattle.runner.specs.Memory.{Memory}
+use Rattle.runner.specs.Rehearse.{Rehearsed}
+use Rattle.runner.specs.Choice.{room_of}
 use Rattle.runner.specs.declared.choice.Choice.{Choice}
-use Rattle.console.specs.Printing.{Told, told, Prints}
+use Rattle.console.specs.Print.{Told, told, Prints}
 
 -- what was written of the bytes that tell of a sheet
 pub prints : {A E : Type 0} (choice : Choice) (sheet text : List ℕ) (old new : Option (List ℕ)) (r : Result A E)
@@ -22,7 +25,7 @@ prints_of choice (Some xs) sheet old new (Ok x) read wrote = subst (λ s. Prints
 
 pub tells : (choice : Choice) (sheet text : List ℕ) (cells : ℕ) (before after : Memory) (r : Result ℕ DrillFault)
     → cells ≡ 1024 → length before.orders ≡ 4096 → length before.answers ≡ 4096 → length before.out ≡ 65536
-    → Rehearsed sheet [] (room_of choice cells) before after r → text ≡ told r after.out → Told choice sheet text
+    → Rehearsed sheet (empty (room_of choice cells)) before after r → text ≡ told r after.out → Told choice sheet text
 tells choice sheet text cells before after r e orders answers out h same = record {
   before = before;
   after = after;

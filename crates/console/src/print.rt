@@ -1,14 +1,14 @@
 //! One sheet: rehearsed, and what is printed of it.
 ghost use Rattle.std.specs.Prelude.{◌≡◌, OnOk, Err, [], length};
 ghost use Rattle.std.specs.Io.KnownBytes.{Appends};
-ghost use Rattle.console.specs.Printing.{told, Prints};
+ghost use Rattle.console.specs.Print.{told, Prints};
 
 use orders::answer::Answer;
 use orders::order::Order;
 use runner::choice::{Choice, rehearse_by};
 use runner::fault::DrillFault;
 use runner::memory::Memory;
-use sheet::listing::Position;
+use sheet::page::Position;
 use std::alloc::Global;
 use std::io::{self, Write};
 use wire::message::Message;

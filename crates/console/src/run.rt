@@ -1,6 +1,6 @@
 //! A whole program: a sheet in, what comes of it out.
 ghost use Rattle.std.specs.Prelude.{◌≡◌, ℕ, List, take, IfOk, IfSome, OnOk};
-ghost use Rattle.console.specs.Printing.{Prints};
+ghost use Rattle.console.specs.Print.{Prints};
 
 use crate::print::print;
 use runner::choice::Choice;

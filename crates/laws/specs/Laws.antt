@@ -2,10 +2,10 @@
 use Rattle.std.specs.Prelude.{◌≡◌, ℕ, suc, ◌+◌, ◌-◌, ◌*◌, ◌<◌, ◌≤◌, ◌&&◌, ◌⊎◌, List, [], ◌∷◌, map, take, drop, ℤ, Some, sum_by, count_by, ◌==◌, ◌≢◌, nat_le, nat_lt}
 use Rattle.std.specs.List.{ContainsAt as Has, AllByRecursion}
 use Rattle.orders.specs.declared.order.Order.TheVariants.{Tell, ClientOut}
-use Rattle.orders.specs.Answers.{listed_as}
-use Rattle.register.specs.declared.settings.Checked.{Checked}
-use Rattle.register.specs.State.{opened}
-use Rattle.register.specs.Past.{World, world, Entry, Past}
+use Rattle.orders.specs.Answer.{listed_as}
+use Rattle.settings.specs.declared.checked.Checked.{Checked}
+use Rattle.wire.specs.declared.message.Message.{Message}
+use Rattle.laws.specs.Entries.{Entry}
 use Rattle.laws.specs.Operations.{At, code, who, AcceptedAt, Begins, EndsAt, Operation, IsWrite, IsRead, Belongs}
 
 -- ---- one line
@@ -83,14 +83,10 @@ Withdrawn es c = (i : ℕ) × AcceptedAt es (ClientOut c) i
 abbrev pub AllEnded : List Entry → Type 0
 AllEnded es = (c i : ℕ) → Begins es c i → (Withdrawn es c → ⊥) → ((j : ℕ) × EndsAt es c i j) ⊎ AwaitsTell es c i
 
--- ---- every past
+-- ---- the three laws
 
--- the three laws of one past, which began with the settings k and has come to the world w
-pub record Lawful (k : Checked) (w : World) (es : List Entry) : Type 0 where
+-- the three laws of the entries of one past, which began with the settings k; these messages wait now
+pub record Lawful (k : Checked) (waiting : List Message) (es : List Entry) : Type 0 where
   pub line : OneLine k.initial es
   pub rounds : FewRounds k es
-  pub ending : w.waiting ≡ [] → AllEnded es
-
--- Every past keeps the laws: of a register opened with any accepted settings over any channel in which nothing waits and a place is free for each replica, then given any orders, with any choice of the waiting message at each carry.
-abbrev pub Laws : Type 0
-Laws = (k : Checked) (places : ℕ) → k.replicas ≤ places → (es : List Entry) (w : World) → Past (world (opened k) [] places) es w → Lawful k w es
+  pub ending : waiting ≡ [] → AllEnded es

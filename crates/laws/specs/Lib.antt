@@ -1,5 +1,3 @@
+pub mod Entries
 pub mod Operations
 pub mod Laws
-pub mod Performing
-pub mod Examples
-pub mod Marked

@@ -1,9 +1,9 @@
 -- What the entries of a past tell: where operations begin and end, and what they are.
 use Rattle.std.specs.Prelude.{◌≡◌, ℕ, zero, suc, ◌<◌, Bool, true, false, ◌&&◌, ◌⊎◌, List, [], ◌∷◌, take, ℤ, Some, None, count_by, Option, ◌==◌, ◌≢◌}
 use Rattle.orders.specs.declared.order.Order.{Order}
-use Rattle.orders.specs.declared.order.Order.TheVariants.{Write, Read, Tell, Carry, ReplicaOut, ClientOut}
-use Rattle.orders.specs.Answers.{listed_as}
-use Rattle.register.specs.Past.{Entry}
+use Rattle.orders.specs.declared.order.Order.TheVariants.{Write, Read}
+use Rattle.orders.specs.Answer.{listed_as}
+use Rattle.laws.specs.Entries.{Entry}
 
 -- the entry at a place, counted from 0
 abbrev pub At : List Entry → ℕ → Entry → Type 0
@@ -19,11 +19,7 @@ who e = (listed_as e.answer).who
 
 abbrev pub is_write : Order → Bool
 is_write (Write z) = true
-is_write (Read c) = false
-is_write (Tell c) = false
-is_write Carry = false
-is_write (ReplicaOut b) = false
-is_write (ClientOut c) = false
+is_write _ = false
 
 -- how many writes were accepted before a place
 abbrev pub writes_before : List Entry → ℕ → ℕ

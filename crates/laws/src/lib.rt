@@ -1,7 +1,2 @@
-//! The laws of every past, and the call on which they stand.
+//! The statement to believe: the entries of a past, its operations, and the three laws. Nothing here knows how a register works.
 #![tactic(auto)]
-
-pub mod examples;
-pub mod marked;
-pub mod perform;
-pub mod stand;

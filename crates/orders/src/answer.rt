@@ -1,6 +1,6 @@
 //! Answers and refusals, by name; `Listed` has the five numbers that a listing shows of an answer.
 ghost use Rattle.std.specs.Prelude.{◌≡◌};
-ghost use Rattle.orders.specs.Answers.{number_of, listed_as, bare_of};
+ghost use Rattle.orders.specs.Answer.{number_of, listed_as, bare_of};
 
 /// Why a call was sent back.
 #[derive(Debug, Clone, Copy, PartialEq, Eq)]

@@ -2,6 +2,4 @@
 #![tactic(auto)]
 
 pub mod answer;
-pub mod limits;
 pub mod order;
-pub mod settings;

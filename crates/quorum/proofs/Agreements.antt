@@ -9,7 +9,7 @@ use Rattle.std.proofs.lemmas.List.Sums.{length-filter}
 use Rattle.std.proofs.ByRecursion.{kept_by_passes, All-weaker}
 use Rattle.std.specs.List.{AllByRecursion}
 use Rattle.quorum.specs.declared.slip.Reading.{Reading}
-use Rattle.quorum.specs.Deciding.{all_have, common_marks, all_at, agree, agreed, some_set}
+use Rattle.quorum.specs.Agree.{all_have, common_marks, all_at, agree, agreed, some_set}
 use Rattle.quorum.specs.Masks.{covers}
 use Rattle.quorum.proofs.Digits.{digit, digit_and, within_from_digits, ones_in_lem, sum_to, mask_of, mask_below, digit_mask, ones_mask, ones_le_sum}
 use Rattle.quorum.proofs.Sets.{chosen, chosen_map, chosen_le_count, number_from_some, some_from_number, set_from_some, some_from_set}

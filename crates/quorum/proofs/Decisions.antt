@@ -4,7 +4,9 @@ use Rattle.std.proofs.lemmas.Bool.{eqb-true, eqb-false, leb-true, leb-false, or_
 use Rattle.quorum.specs.declared.slip.Reading.{Reading}
 use Rattle.quorum.specs.declared.decide.Verdict.{Verdict}
 use Rattle.quorum.specs.declared.decide.Verdict.TheVariants.{Highest, Due, Previous}
-use Rattle.quorum.specs.Deciding.{highest_of, notes_at, lowest_at, agreed, verdict_at, decided_at, decided}
+use Rattle.quorum.specs.Highest.{highest_of, notes_at, lowest_at}
+use Rattle.quorum.specs.Agree.{agreed}
+use Rattle.quorum.specs.Decide.{verdict_at, decided_at, decided}
 
 -- ---- the parts of a decision
 

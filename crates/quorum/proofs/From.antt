@@ -4,7 +4,7 @@ use Rattle.std.proofs.lemmas.Bool.Decides.{nat_tests}
 use Rattle.std.proofs.lemmas.Bool.{cases_lt, le-ltb, ltb-true, not-true, and_parts, and_right}
 use Rattle.std.proofs.lemmas.List.{take_more_set}
 use Rattle.std.specs.List.{list_any}
-use Rattle.quorum.specs.Tallies.{from, adds, Once}
+use Rattle.quorum.specs.Tally.{from, adds, Once}
 
 -- the same as std's test of any element
 pub from_is_any : {X : Type 0} (f : X → ℕ) (b : ℕ) (xs : List X) → list_any (λ x. eqb (f x) b) xs ≡ from f b xs

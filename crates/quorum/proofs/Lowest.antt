@@ -4,8 +4,8 @@ use Rattle.std.proofs.lemmas.Bool.{cases_Bool}
 use Rattle.std.specs.List.{best_of}
 use Rattle.std.specs.Option.{UnwrapsOrElse}
 use Rattle.quorum.specs.declared.slip.Reading.{Reading}
-use Rattle.quorum.specs.Rounds.{blank_reading}
-use Rattle.quorum.specs.Deciding.{lowest_at}
+use Rattle.quorum.specs.Slip.{blank_reading}
+use Rattle.quorum.specs.Highest.{lowest_at}
 
 -- the reply is of a lower replica than the one found, if any is
 abbrev is_lower : Option Reading → Reading → Bool

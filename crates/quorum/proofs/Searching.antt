@@ -8,7 +8,7 @@ use Rattle.std.proofs.lemmas.Bool.Decides.{nat_tests}
 use Rattle.std.proofs.lemmas.List.Sums.{sum_by-cons}
 use Rattle.std.proofs.lemmas.Bool.{and_parts, and_from, and_cases, leb-true, leb-false, le-leb, cases_Bool, cases_lt, both_ways}
 use Rattle.quorum.specs.declared.slip.Reading.{Reading}
-use Rattle.quorum.specs.Deciding.{agreed}
+use Rattle.quorum.specs.Agree.{agreed}
 use Rattle.quorum.specs.Masks.{covers, used_at, largest, mask_agrees}
 use Rattle.quorum.proofs.Digits.{digit, digit_or, digits_from_within, within_from_digits}
 use Rattle.quorum.proofs.Agreements.{mask_from_agreed, agreed_from_mask}

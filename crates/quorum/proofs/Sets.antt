@@ -3,8 +3,8 @@ use Rattle.std.proofs.Common.{◌≡◌, ℕ, zero, suc, ◌≤◌, Bool, true, 
 use Rattle.std.proofs.lemmas.Bool.{or_cases, or_parts, or_from, or_left, or_right, both_ways, cases_lt}
 use Rattle.std.proofs.lemmas.List.Sums.{sum_by-cons}
 use Rattle.std.specs.List.{AllByRecursion}
-use Rattle.quorum.specs.Tallies.{from, Once}
-use Rattle.quorum.specs.Deciding.{some_up_to, some_set}
+use Rattle.quorum.specs.Tally.{from, Once}
+use Rattle.quorum.specs.Agree.{some_up_to, some_set}
 
 -- the elements that a selection picks, by place
 abbrev pub chosen : {X : Type 0} → List Bool → List X → List X

@@ -1,5 +1,7 @@
-pub mod Tallies
-pub mod Rounds
-pub mod Deciding
+pub mod Agree
+pub mod Highest
+pub mod Decide
 pub mod Masks
-pub mod Examples
+pub mod Replies
+pub mod Slip
+pub mod Tally

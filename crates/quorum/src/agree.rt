@@ -3,7 +3,7 @@
 //! A set of replies with given marks in common is as good as the mask of these marks and all the
 //! replies that have them, so the search goes over masks and not over sets.
 ghost use Rattle.std.specs.Prelude.{◌≡◌, ◌-◌, ◌*◌, count_by, count_ones};
-ghost use Rattle.quorum.specs.Deciding.{agreed};
+ghost use Rattle.quorum.specs.Agree.{agreed};
 ghost use Rattle.quorum.specs.Masks.{covers, used_at, largest, mask_agrees};
 
 use crate::rule::Rule;

@@ -1,6 +1,6 @@
 //! Deciding a read by the replies of its first round.
 ghost use Rattle.std.specs.Prelude.{◌≡◌};
-ghost use Rattle.quorum.specs.Deciding.{verdict_at, decided_at, decided};
+ghost use Rattle.quorum.specs.Decide.{verdict_at, decided_at, decided};
 
 use crate::highest::{highest, lowest_at, notes_at};
 use crate::rule::Rule;

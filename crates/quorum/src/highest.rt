@@ -1,7 +1,7 @@
 //! What the replies of a first round say of the highest version among them.
 ghost use Rattle.std.specs.Prelude.{◌≡◌, unwrap_or};
-ghost use Rattle.quorum.specs.Rounds.{blank_reading};
-ghost use Rattle.quorum.specs.Deciding.{highest_by, notes_at, lowest_at};
+ghost use Rattle.quorum.specs.Slip.{blank_reading};
+ghost use Rattle.quorum.specs.Highest.{highest_by, notes_at, lowest_at};
 
 use crate::slip::{Reading, VersionedSlip};
 

@@ -3,7 +3,6 @@
 
 pub mod agree;
 pub mod decide;
-pub mod examples;
 pub mod highest;
 pub mod replies;
 pub mod rule;

@@ -1,7 +1,7 @@
 //! The slips that a client has counted in a round, in fixed memory.
 ghost use Rattle.std.specs.Prelude.{◌≡◌, take};
-ghost use Rattle.quorum.specs.Tallies.{adds};
-ghost use Rattle.quorum.specs.Rounds.{NoneCounted, with_slip};
+ghost use Rattle.quorum.specs.Tally.{adds};
+ghost use Rattle.quorum.specs.Replies.{NoneCounted, with_slip};
 
 use crate::slip::{Reading, Receipt, Slip};
 use crate::tally::add_to;

@@ -1,6 +1,6 @@
 //! What a client keeps of a reply: a bare receipt, or a reading.
 ghost use Rattle.std.specs.Prelude.{◌≡◌, ℕ};
-ghost use Rattle.quorum.specs.Rounds.{receipt_of, reading_of};
+ghost use Rattle.quorum.specs.Slip.{receipt_of, reading_of};
 
 use wire::message::Message;
 

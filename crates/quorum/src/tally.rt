@@ -1,6 +1,6 @@
 //! The slips of one round, at most one of each replica, in memory that is lent.
 ghost use Rattle.std.specs.Prelude.{◌≡◌, ◌+◌, ◌≤◌, min, length, take, if◌then◌else◌, slice_set};
-ghost use Rattle.quorum.specs.Tallies.{from, adds, Once};
+ghost use Rattle.quorum.specs.Tally.{from, adds, Once};
 
 use crate::slip::Slip;
 

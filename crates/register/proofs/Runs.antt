@@ -3,7 +3,9 @@ use Rattle.std.proofs.Common.{◌≡◌, ℕ, ◌+◌, ◌<◌, List, [], ◌∷
 use Rattle.std.proofs.lemmas.List.{take_more_set, drop-drop, drop-set-lt, map_push}
 use Rattle.orders.specs.declared.order.Order.{Order}
 use Rattle.orders.specs.declared.answer.Answer.{Answer}
-use Rattle.register.specs.Past.{World, Entry, start, more, Ran, Answered, sent_in}
+use Rattle.register.specs.World.{World, Answered, sent_in}
+use Rattle.laws.specs.Entries.{Entry}
+use Rattle.register.specs.Past.{start, more, Ran}
 
 -- nothing was done yet
 pub ran_none : (v : World) → Ran v [] [] v

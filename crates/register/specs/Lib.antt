@@ -1,6 +1,9 @@
-pub mod Opening
-pub mod State
-pub mod Handling
+pub mod Send
 pub mod Calls
+pub mod Refuse
+pub mod Handle
+pub mod Fault
+pub mod Open
+pub mod World
 pub mod Past
-pub mod Session
+pub mod Register

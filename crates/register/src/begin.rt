@@ -1,11 +1,13 @@
 //! A round begins: the client's state changes, and its set of messages goes out.
 ghost use Rattle.std.specs.Prelude.{◌≡◌, ◌+◌, ◌<◌, ◌≤◌, ◌++◌, length};
-ghost use Rattle.std.specs.List.Sorted.{IsPermutation};
-ghost use Rattle.register.specs.Calls.{order_of, named, count_of, accepted, put_out};
+ghost use Rattle.wire.specs.Channel.{Sends};
+ghost use Rattle.client.specs.Start.{order_of, count_of};
+ghost use Rattle.orders.specs.Order.{named};
+ghost use Rattle.register.specs.Calls.{accepted, put_out};
 
 use crate::register::Register;
 use crate::send::send;
-use crate::start::Round;
+use client::start::Round;
 use wire::channel::Channel;
 
 impl Register {
@@ -16,10 +18,9 @@ impl Register {
     pub(crate) fn begin<C: Channel>(&mut self, c: &mut C, round: Round, count: u8)
         requires client { named (order_of round) < 65 }
         requires count { count ≡ count_of self.old.settings round }
-        requires room { count ≤ C.places c.old }
+        requires room { count ≤ (C.contents c.old).free }
         ensures after { self.new ≡ accepted self.old (order_of round) }
-        ensures waiting { IsPermutation (C.held c.new) (put_out self.old (order_of round) ++ C.held c.old) }
-        ensures places { C.places c.old ≡ C.places c.new + length (put_out self.old (order_of round)) }
+        ensures sends { Sends (put_out self.old (order_of round)) (C.contents c.old) (C.contents c.new) }
     {
         let k = self.settings;
         let who = round.client();

@@ -1,10 +1,10 @@
 //! The calls that start something or withdraw someone.
 ghost use Rattle.std.specs.Prelude.{◌≡◌};
-ghost use Rattle.register.specs.Past.{Answered, world};
+ghost use Rattle.register.specs.World.{Answered, world};
 
 use crate::register::Register;
 use crate::send::has_room;
-use crate::start::Round;
+use client::start::Round;
 use orders::answer::Answer;
 use orders::order::Order;
 use wire::channel::Channel;
@@ -14,7 +14,7 @@ use wire::channel::Channel;
 impl Register {
     /// The writer begins to write. Sent back, the first that fits: `Withdrawn`, `Busy`, `ValueRange`, `RoundLimit`, `NoRoom`.
     pub fn write<C: Channel>(&mut self, c: &mut C, value: i32) -> Answer
-        ensures { Answered (world self.old (C.held c.old) (C.places c.old)) (Order.Write value) result (world self.new (C.held c.new) (C.places c.new)) }
+        ensures { Answered (world self.old (C.contents c.old)) (Order.Write value) result (world self.new (C.contents c.new)) }
     {
         let count = self.settings.replicas;
         match self.check_write(has_room(c, count), value) {
@@ -28,7 +28,7 @@ impl Register {
 
     /// Reader 1 to R begins to read. Sent back, the first that fits: `Unknown`, `Withdrawn`, `Busy`, `RoundLimit`, `NoRoom`.
     pub fn read<C: Channel>(&mut self, c: &mut C, reader: u32) -> Answer
-        ensures { Answered (world self.old (C.held c.old) (C.places c.old)) (Order.Read reader) result (world self.new (C.held c.new) (C.places c.new)) }
+        ensures { Answered (world self.old (C.contents c.old)) (Order.Read reader) result (world self.new (C.contents c.new)) }
     {
         let count = self.settings.replicas;
         match self.check_read(has_room(c, count), reader) {
@@ -42,7 +42,7 @@ impl Register {
 
     /// A reader whose read is due begins its second round. Sent back, the first that fits: `Unknown`, `Withdrawn`, `NotDue`, `NoRoom`.
     pub fn tell<C: Channel>(&mut self, c: &mut C, reader: u32) -> Answer
-        ensures { Answered (world self.old (C.held c.old) (C.places c.old)) (Order.Tell reader) result (world self.new (C.held c.new) (C.places c.new)) }
+        ensures { Answered (world self.old (C.contents c.old)) (Order.Tell reader) result (world self.new (C.contents c.new)) }
     {
         let count = 3 * self.settings.tolerated + 1;
         match self.check_tell(has_room(c, count), reader) {
@@ -56,7 +56,7 @@ impl Register {
 
     /// Replica 0 to S - 1 is withdrawn. Sent back, the first that fits: `Unknown`, `AlreadyOut`, `OutLimit`.
     pub fn replica_out<C: Channel>(&mut self, c: &mut C, replica: u32) -> Answer
-        ensures { Answered (world self.old (C.held c.old) (C.places c.old)) (Order.ReplicaOut replica) result (world self.new (C.held c.new) (C.places c.new)) }
+        ensures { Answered (world self.old (C.contents c.old)) (Order.ReplicaOut replica) result (world self.new (C.contents c.new)) }
     {
         match self.check_replica_out(replica) {
             Ok(b) => {
@@ -70,7 +70,7 @@ impl Register {
 
     /// The writer, 0, or reader 1 to R is withdrawn. Sent back, the first that fits: `Unknown`, `Withdrawn`.
     pub fn client_out<C: Channel>(&mut self, c: &mut C, client: u32) -> Answer
-        ensures { Answered (world self.old (C.held c.old) (C.places c.old)) (Order.ClientOut client) result (world self.new (C.held c.new) (C.places c.new)) }
+        ensures { Answered (world self.old (C.contents c.old)) (Order.ClientOut client) result (world self.new (C.contents c.new)) }
     {
         match self.check_client_out(client) {
             Ok(i) => {

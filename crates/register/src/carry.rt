@@ -1,8 +1,8 @@
 //! Carrying: one waiting message is taken from the channel and handled, and its reply put in.
 ghost use Rattle.std.specs.Prelude.{◌≡◌, ◌+◌, ◌≤◌, ◌++◌, length};
 ghost use Rattle.std.specs.Option.{option_to_list};
-ghost use Rattle.std.specs.List.Sorted.{IsPermutation};
-ghost use Rattle.register.specs.Past.{Answered, world};
+ghost use Rattle.wire.specs.Channel.{Sends};
+ghost use Rattle.register.specs.World.{Answered, world};
 
 use crate::register::Register;
 use orders::answer::{Answer, Refusal};
@@ -12,9 +12,8 @@ use wire::message::Message;
 
 /// Puts a replica's reply into the channel, where a place was just freed.
 fn put_reply<C: Channel>(c: &mut C, reply: Option<Message>)
-    requires { 1 ≤ C.places c.old }
-    ensures waiting { IsPermutation (C.held c.new) (option_to_list reply ++ C.held c.old) }
-    ensures places { C.places c.old ≡ C.places c.new + length (option_to_list reply) }
+    requires { 1 ≤ (C.contents c.old).free }
+    ensures { Sends (option_to_list reply) (C.contents c.old) (C.contents c.new) }
 {
     if let Some(m) = reply {
         c.put(m).unwrap();
@@ -24,7 +23,7 @@ fn put_reply<C: Channel>(c: &mut C, reply: Option<Message>)
 impl Register {
     /// For some message that waited, of the channel's choice, this is what the rules say of it. Sent back with `NothingWaits`.
     pub fn carry<C: Channel>(&mut self, c: &mut C) -> Answer
-        ensures { Answered (world self.old (C.held c.old) (C.places c.old)) Order.Carry result (world self.new (C.held c.new) (C.places c.new)) }
+        ensures { Answered (world self.old (C.contents c.old)) Order.Carry result (world self.new (C.contents c.new)) }
     {
         let Some(m) = c.take() else {
             return Answer::Refused(Refusal::NothingWaits, 0);

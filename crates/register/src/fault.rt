@@ -1,7 +1,9 @@
 //! The faults of opening and running, and their numbers.
 ghost use Rattle.std.specs.Prelude.{◌≡◌};
-ghost use Rattle.register.specs.declared.fault.RegisterFault.TheVariants.{Channel};
-ghost use Rattle.register.specs.Opening.{fault_number};
+ghost use Rattle.register.specs.declared.fault.RegisterFault.TheVariants.{Settings, Channel};
+ghost use Rattle.register.specs.Fault.{fault_number};
+
+use settings::fault::SettingsFault;
 
 /// Why a register cannot open over a channel.
 #[derive(Debug, Clone, Copy, PartialEq, Eq)]
@@ -15,19 +17,22 @@ pub enum ChannelFault {
 /// Why a register was not opened, or a list of orders not run.
 #[derive(Debug, Clone, Copy, PartialEq, Eq)]
 pub enum RegisterFault {
-    /// a setting is outside its range
-    Range,
-    /// too few replicas for so many groups and replicas out
-    Overlap,
-    /// the initial value is outside its range
-    Initial,
+    /// the settings do not pass
+    Settings(SettingsFault),
     /// the channel is not fit to open over
     Channel(ChannelFault),
     /// the answer list is shorter than the order list
     Answers,
 }
 
-// Stays: the product's rules name this form: a channel's fault inside a register's, by From and `?`.
+impl From<SettingsFault> for RegisterFault {
+    ghost from_gives = { λ a r. r ≡ Settings a };
+
+    fn from(a: SettingsFault) -> RegisterFault {
+        RegisterFault::Settings(a)
+    }
+}
+
 impl From<ChannelFault> for RegisterFault {
     ghost from_gives = { λ a r. r ≡ Channel a };
 
@@ -43,9 +48,7 @@ impl RegisterFault {
         ensures { result ≡ fault_number self }
     {
         match self {
-            RegisterFault::Range => 1,
-            RegisterFault::Overlap => 2,
-            RegisterFault::Initial => 3,
+            RegisterFault::Settings(f) => f.number(),
             RegisterFault::Channel(ChannelFault::NotEmpty) => 4,
             RegisterFault::Channel(ChannelFault::TooFew) => 5,
             RegisterFault::Answers => 6,

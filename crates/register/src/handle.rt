@@ -1,6 +1,6 @@
 //! Handling one message: at its replica or at its client. No channel is touched.
 ghost use Rattle.std.specs.Prelude.{◌≡◌};
-ghost use Rattle.register.specs.Handling.{handled, handled_answer, handled_reply};
+ghost use Rattle.register.specs.Handle.{handled, handled_answer, handled_reply};
 
 use crate::register::Register;
 use orders::answer::Answer;

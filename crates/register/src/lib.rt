@@ -4,17 +4,11 @@
 pub(crate) mod begin;
 pub mod calls;
 pub mod carry;
-pub mod check;
-pub mod client;
 pub mod fault;
 pub mod handle;
-pub mod hear;
 pub mod open;
 pub(crate) mod refuse;
 pub mod register;
 pub mod run;
 pub(crate) mod send;
-pub mod session;
-pub mod settings;
 pub mod settle;
-pub(crate) mod start;

@@ -1,56 +1,52 @@
-//! Opening a register: the check, then at once the making.
+//! Opening a register: the check, which alone may refuse, then at once the making.
 ghost use Rattle.std.specs.Prelude.{◌≡◌, length, Some, None, MatchResult};
-ghost use Rattle.register.specs.Opening.{opening_fault, Opens};
-ghost use Rattle.register.specs.State.{opened, opened_client};
+ghost use Rattle.settings.specs.Fault.{FailsBy};
+ghost use Rattle.register.specs.Open.{channel_fault, opening_fault, Opens};
+ghost use Rattle.register.specs.Register.{opened};
 
-use crate::check::check;
-use crate::client::{Client, Phase};
-use crate::fault::RegisterFault;
+use crate::fault::{ChannelFault, RegisterFault};
 use crate::register::Register;
-use crate::settings::Checked;
-use orders::settings::Settings;
+use client::client::Client;
 use replica::row::Row;
+use settings::checked::Checked;
+use settings::given::Settings;
 use wire::channel::Channel;
 
-impl Client {
-    // A client as it opens.
-    // Not inlined, since the table of clients is then filled by whole copies, and not cleared first.
-    #[inline(never)]
-    pub(crate) fn open(initial: i32) -> Client
-        ensures { result ≡ opened_client initial }
-    {
-        Client {
-            out: false,
-            round: 0,
-            version: 0,
-            value: initial,
-            previous: initial,
-            phase: Phase::Idle,
-        }
+// Is the channel empty, with a place for each replica?
+fn check_channel<C: Channel>(c: &C, replicas: u32) -> Result<(), ChannelFault>
+    ensures { FailsBy result (channel_fault (C.contents c.now) replicas) }
+{
+    if c.waiting() > 0 {
+        return Err(ChannelFault::NotEmpty);
+    }
+    if c.free() < replicas {
+        return Err(ChannelFault::TooFew);
+    }
+    Ok(())
+}
+
+// The register of settings that passed.
+fn make(settings: Checked) -> Register
+    ensures { result ≡ opened settings }
+{
+    let row = Row::open(settings.initial);
+    let client = Client::open(settings.initial);
+    Register {
+        settings,
+        outs: 0,
+        out: [false; 32],
+        rows: [row; 32],
+        clients: [client; 65],
     }
 }
 
 impl Register {
-    // The register of settings that passed.
-    pub(crate) fn make(settings: Checked) -> Register
-        ensures { result ≡ opened settings }
-    {
-        let row = Row::open(settings.initial);
-        let client = Client::open(settings.initial);
-        Register {
-            settings,
-            outs: 0,
-            out: [false; 32],
-            rows: [row; 32],
-            clients: [client; 65],
-        }
-    }
-
     /// Opens a register over a channel; a fault leaves nothing behind.
     pub fn open<C: Channel>(s: Settings, c: &C) -> Result<Register, RegisterFault>
-        ensures { MatchResult result (λ x. Opens s (C.held c.now) (C.places c.now) x) (λ e. opening_fault s (length (C.held c.now)) (C.places c.now) ≡ Some e) }
+        ensures { MatchResult result (λ x. Opens s (C.contents c.now) x) (λ e. opening_fault s (C.contents c.now) ≡ Some e) }
     {
-        let settings = check(s, c)?;
-        Ok(Register::make(settings))
+        let settings = Checked::try_from(s)?;
+        check_channel(c, s.replicas)?;
+        Ok(make(settings))
     }
 }

@@ -1,13 +1,13 @@
 //! Why a call is sent back: the first refusal that fits, tried in rising order of the numbers.
 ghost use Rattle.std.specs.Prelude.{◌≡◌, ◌<◌, IfOk};
-ghost use Rattle.register.specs.Opening.{FailsBy};
-ghost use Rattle.register.specs.Calls.{write_refusal, read_refusal, tell_refusal, reader_refusal, replica_out_refusal, client_out_refusal};
+ghost use Rattle.settings.specs.Fault.{FailsBy};
+ghost use Rattle.register.specs.Refuse.{write_refusal, read_refusal, tell_refusal, reader_refusal, replica_out_refusal, client_out_refusal};
 
-use crate::check::value_in_range;
-use crate::client::Phase;
 use crate::register::Register;
+use client::client::Phase;
 use orders::answer::Refusal;
-use orders::limits::ROUNDS_MAX;
+use settings::limits::ROUNDS_MAX;
+use settings::range::value_in_range;
 
 // A number that passes is given back as its place in the table.
 // Stays: the bound on that place stands in each contract: a struct with a ghost field for it would be made in one function and opened at every index.

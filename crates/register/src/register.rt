@@ -1,7 +1,7 @@
 //! The register: settings, replicas and clients in fixed tables.
-use crate::client::Client;
-use crate::settings::Checked;
+use client::client::Client;
 use replica::row::Row;
+use settings::checked::Checked;
 
 /// Settings, replicas and clients. Tens of kilobytes: handed on by reference.
 // Stays: fixed tables, since the library allocates nothing.

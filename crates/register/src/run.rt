@@ -1,6 +1,7 @@
 //! Lists of orders: one answer for each.
 ghost use Rattle.std.specs.Prelude.{◌≡◌, ◌<◌, ◌≤◌, length, take, drop, MatchResult};
-ghost use Rattle.register.specs.Past.{Answered, Ran, world};
+ghost use Rattle.register.specs.World.{Answered, world};
+ghost use Rattle.register.specs.Past.{Ran};
 
 use crate::fault::RegisterFault;
 use crate::register::Register;
@@ -12,7 +13,7 @@ impl Register {
     /// One order.
     // Stays: an order is read from a sheet, so an enum holds it and one match does it; a table of functions would still need a place for each kind.
     pub fn order<C: Channel>(&mut self, c: &mut C, o: Order) -> Answer
-        ensures { Answered (world self.old (C.held c.old) (C.places c.old)) o result (world self.new (C.held c.new) (C.places c.new)) }
+        ensures { Answered (world self.old (C.contents c.old)) o result (world self.new (C.contents c.new)) }
     {
         match o {
             Order::Write(value) => self.write(c, value),
@@ -34,7 +35,7 @@ impl Register {
         answers: &mut [Answer],
     ) -> Result<(), RegisterFault>
         ensures { MatchResult result
-            (λ _. Ran (world self.old (C.held c.old) (C.places c.old)) orders.now (take (length orders.now) answers.new) (world self.new (C.held c.new) (C.places c.new))
+            (λ _. Ran (world self.old (C.contents c.old)) orders.now (take (length orders.now) answers.new) (world self.new (C.contents c.new))
             × (drop (length orders.now) answers.new ≡ drop (length orders.now) answers.old)
             × (length orders.now ≤ length answers.old))
             (λ e. (e ≡ RegisterFault.Answers) × (length answers.old < length orders.now) × (answers.new ≡ answers.old) × (c.new ≡ c.old) × (self.new ≡ self.old)) }

@@ -1,14 +1,14 @@
 //! Sets of messages: one to each of the first replicas, by rising number.
 ghost use Rattle.std.specs.Prelude.{◌≡◌, ◌+◌, ◌≤◌, ◌++◌, nat_le};
-ghost use Rattle.std.specs.List.Sorted.{IsPermutation};
-ghost use Rattle.register.specs.Calls.{copies, toward};
+ghost use Rattle.wire.specs.Channel.{Sends};
+ghost use Rattle.register.specs.Send.{copies, toward};
 
 use wire::channel::Channel;
 use wire::message::Message;
 
 /// Has the channel so many free places?
 pub(crate) fn has_room<C: Channel>(c: &C, count: u8) -> bool
-    ensures { result ≡ nat_le count (C.places c.now) }
+    ensures { result ≡ nat_le count (C.contents c.now).free }
 {
     c.free() >= u32::from(count)
 }
@@ -21,14 +21,12 @@ fn to_replica(m: Message, b: u8) -> Message
 }
 
 /// Puts in the message once for each of the replicas 0 to count - 1.
-// Stays: `waiting` and `places` stand here, in `begin` and in `put_reply`: one definition of both would be no plainer than two short clauses
-// that proofs take by their names.
+#[tactic(auto, using(crate::proofs::Sends::length_copies))]
 // Inlined, so that the channel's `put` is known in the loop.
 #[inline(always)]
 pub(crate) fn send<C: Channel>(c: &mut C, m: Message, count: u8)
-    requires { count ≤ C.places c.old }
-    ensures waiting { IsPermutation (C.held c.new) (copies m count ++ C.held c.old) }
-    ensures places { C.places c.old ≡ C.places c.new + count }
+    requires { count ≤ (C.contents c.old).free }
+    ensures { Sends (copies m count) (C.contents c.old) (C.contents c.new) }
 {
     // Stays: b is no index counted by hand but a replica's number, which each message carries.
     for b in 0..count {

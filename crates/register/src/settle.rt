@@ -1,6 +1,7 @@
 //! Settling: carries until no message waits or the answer list is full.
 ghost use Rattle.std.specs.Prelude.{◌≡◌, ◌<◌, ◌≤◌, [], length, take, drop, replicate};
-ghost use Rattle.register.specs.Past.{Ran, world};
+ghost use Rattle.register.specs.Past.{Ran};
+ghost use Rattle.register.specs.World.{world};
 
 use crate::register::Register;
 use orders::answer::Answer;
@@ -10,10 +11,10 @@ use wire::channel::Channel;
 impl Register {
     /// Gives how many carries it did; later answers keep what they held.
     pub fn settle<C: Channel>(&mut self, c: &mut C, answers: &mut [Answer]) -> usize
-        ensures carries { Ran (world self.old (C.held c.old) (C.places c.old)) (replicate result Order.Carry) (take result answers.new) (world self.new (C.held c.new) (C.places c.new)) }
+        ensures carries { Ran (world self.old (C.contents c.old)) (replicate result Order.Carry) (take result answers.new) (world self.new (C.contents c.new)) }
         ensures later { drop result answers.new ≡ drop result answers.old }
         ensures within { result ≤ length answers.old }
-        ensures settled { result < length answers.old → C.held c.new ≡ [] }
+        ensures settled { result < length answers.old → (C.contents c.new).waiting ≡ [] }
     {
         for (n, answer) in answers.iter_mut().enumerate() {
             if c.waiting() == 0 {

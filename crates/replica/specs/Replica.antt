@@ -1,20 +1,12 @@
--- What a replica keeps and does.
-use Rattle.std.specs.Prelude.{◌+◌, min, max, Bool, cond, ◌||◌, replicate, ℤ, Some, None, Option, ◌==◌, bit_or, nat_le, nat_lt, slice_index, slice_set}
+-- What a message does to a replica's record.
+use Rattle.std.specs.Prelude.{◌+◌, max, Bool, cond, ◌||◌, Some, None, Option, ◌==◌, bit_or, nat_le, nat_lt, slice_index, slice_set}
 use Rattle.wire.specs.declared.message.Message.{Message}
 use Rattle.replica.specs.declared.row.Row.{Row}
-use Rattle.replica.specs.declared.record.Replica.{Replica}
-
--- as it opens: version 0, both values the initial one, no marks, note 0 and rounds 0
-abbrev pub opened_row : ℤ → Row
-opened_row z = record { version = 0; value = z; previous = z; marks = 0; note = 0; rounds = replicate 65 0 }
+use Rattle.replica.specs.declared.replica.Replica.{Replica}
 
 -- what a record holds, as a row
 abbrev pub plain : Replica → Row
 plain r = record { version = r.version; value = r.value; previous = r.previous; marks = r.marks; note = r.note; rounds = r.rounds }
-
--- the record of a row: the lower of its note and version is the note
-abbrev pub record_of : Row → Row
-record_of r = record { version = r.version; value = r.value; previous = r.previous; marks = r.marks; note = min r.note r.version; rounds = r.rounds }
 
 -- a message that no replica acts on: of another kind than write, read and tell, or of a client without a round number here
 abbrev pub misdirected : Message → Bool
@@ -42,18 +34,7 @@ fresh r m =
 
 -- the reply of a replica: the same client and round, and what it holds now
 abbrev pub reply_from : Row → Message → Message
-reply_from r m =
-    record {
-      kind = m.kind + 3;
-      replica = m.replica;
-      client = m.client;
-      round = m.round;
-      version = r.version;
-      value = r.value;
-      previous = r.previous;
-      marks = r.marks;
-      note = r.note;
-    }
+reply_from r m = record m { kind = m.kind + 3; version = r.version; value = r.value; previous = r.previous; marks = r.marks; note = r.note }
 
 -- the replica after a message
 abbrev pub stepped : Row → Message → Row
@@ -62,10 +43,3 @@ stepped r m = cond (misdirected m || is_stale r m) r (fresh r m)
 -- its reply to the message, if any
 abbrev pub replied : Row → Message → Option Message
 replied r m = cond (misdirected m || is_stale r m) None (Some (reply_from (fresh r m) m))
-
--- the same at a row of the table
-abbrev pub delivered : Row → Message → Row
-delivered r m = stepped (record_of r) m
-
-abbrev pub delivered_reply : Row → Message → Option Message
-delivered_reply r m = replied (record_of r) m

@@ -1,6 +1,5 @@
 //! One replica: what it keeps, and what a message does to it.
 #![tactic(auto)]
 
-pub mod record;
+pub mod replica;
 pub mod row;
-pub mod step;

@@ -1,4 +1,8 @@
-//! What the register's table holds of a replica.
+//! What the register's table holds of a replica, and the step of one row.
+ghost use Rattle.std.specs.Prelude.{◌≡◌};
+
+use crate::replica::Replica;
+use wire::message::Message;
 
 /// A replica as it lies in the register's table: a plain row, of which nothing is promised.
 #[derive(Debug, Clone, Copy)]
@@ -12,4 +16,36 @@ pub struct Row {
     pub note: u32,
     /// the last round heard from each client
     pub rounds: [u32; 65],
+}
+
+impl Row {
+    ghost use Rattle.replica.specs.Row.{opened_row, delivered, delivered_reply};
+
+    /// A replica's row as it opens: that of the record.
+    pub fn open(initial: i32) -> Row
+        ensures { result ≡ opened_row initial }
+    {
+        Replica::open(initial).into()
+    }
+
+    /// One message at this row: its record is made, stepped and written back.
+    // Stays: the product's rules name this form: one row is lent to the step, the others stay as they were.
+    pub fn deliver(&mut self, m: Message) -> Option<Message>
+        ensures after { self.new ≡ delivered self.old m }
+        ensures reply { result ≡ delivered_reply self.old m }
+    {
+        let client = usize::from(m.client);
+        let mut record = Replica::from(*self);
+        let reply = record.step(m);
+        self.version = record.version;
+        self.value = record.value;
+        self.previous = record.previous;
+        self.marks = record.marks;
+        self.note = record.note;
+        // Of the rounds only the client's can be another, so the 64 others are not copied back.
+        if let Some(round) = record.rounds.get(client) {
+            self.rounds[client] = *round;
+        }
+        reply
+    }
 }

@@ -1,4 +1,5 @@
-pub mod Faults
 pub mod Drill
-pub mod Rehearsal
+pub mod Fault
 pub mod Memory
+pub mod Rehearse
+pub mod Choice

@@ -1,17 +1,22 @@
 -- The memory that is lent to a drill: what it holds, and who lent it.
 use Rattle.std.specs.Prelude.{◌≡◌, ℕ, List, length}
-use Rattle.wire.specs.declared.message.Message.{Message}
+use Rattle.orders.specs.declared.order.Order.{Order}
+use Rattle.orders.specs.declared.answer.Answer.{Answer}
 use Rattle.runner.specs.declared.memory.Memory.{Memory as Lent}
-use Rattle.runner.specs.Drill.{Desk, desk}
-use Rattle.runner.specs.Rehearsal.{Memory, memory}
 
--- what the memory holds
+-- places for orders and answers, space for a listing, and its length
+pub record Memory : Type 0 where
+  pub orders : List Order
+  pub answers : List Answer
+  pub out : List ℕ
+  pub len : ℕ
+
+abbrev pub memory : List Order → List Answer → List ℕ → ℕ → Memory
+memory orders answers out len = record { orders = orders; answers = answers; out = out; len = len }
+
+-- what the lent memory holds
 abbrev pub content : Lent → Memory
-content m = memory m.orders.now m.answers.now m.out.now m.at.now.len
-
--- what is handed in with it: a channel's messages and free places
-abbrev pub on_desk : List Message → ℕ → Lent → Desk
-on_desk waiting places m = desk waiting places m.orders.now m.answers.now m.out.now m.at.now.len
+content m = record { orders = m.orders.now; answers = m.answers.now; out = m.out.now; len = m.at.now.len }
 
 -- each part is still the memory of the same lender, and as long
 pub record SameLenders (before after : Lent) : Type 0 where

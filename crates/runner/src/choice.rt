@@ -1,15 +1,17 @@
 //! The forms of channel that a rehearsal offers.
-ghost use Rattle.std.specs.Prelude.{[], length};
+ghost use Rattle.std.specs.Prelude.{length};
+ghost use Rattle.wire.specs.Channel.{empty};
 ghost use Rattle.runner.specs.Memory.{SameLenders, content};
-ghost use Rattle.runner.specs.Rehearsal.{Rehearsed, room_of};
+ghost use Rattle.runner.specs.Rehearse.{Rehearsed};
+ghost use Rattle.runner.specs.Choice.{room_of};
 
 use crate::fault::DrillFault;
 use crate::memory::Memory;
 use crate::rehearse::rehearse;
 use channels::delay::Delay;
+use channels::queue::Queue;
 use channels::slots::Slots;
 use wire::message::Message;
-use wire::queue::Queue;
 
 /// A replica's number may be any byte: a layer over one that the sheet does not have delays nothing.
 #[derive(Debug, Clone, Copy, PartialEq, Eq)]
@@ -31,7 +33,7 @@ pub fn rehearse_by<'a>(
     sheet: &'a [u8],
     memory: &mut Memory,
 ) -> Result<usize, DrillFault<'a>>
-    ensures rehearsed { Rehearsed sheet.now [] (room_of choice (length cells.old)) (content memory.old) (content memory.new) result }
+    ensures rehearsed { Rehearsed sheet.now (empty (room_of choice (length cells.old))) (content memory.old) (content memory.new) result }
     ensures lent { SameLenders memory.old memory.new }
 {
     // Stays: tried with a `&mut dyn Channel` that the form would choose: it does not check ("expected `&mut _`, found `&mut dyn Channel`", "a `dyn` type cannot stand for a type parameter yet").

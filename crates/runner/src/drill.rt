@@ -1,14 +1,15 @@
 //! The drill: a sheet in, a listing out, over any channel.
 ghost use Rattle.std.specs.Prelude.{◌≡◌, ◌≤◌, length};
-ghost use Rattle.runner.specs.Drill.{Drills, Plays, desk};
-ghost use Rattle.runner.specs.Memory.{SameLenders, on_desk};
+ghost use Rattle.runner.specs.Drill.{Drills, Plays};
+ghost use Rattle.runner.specs.Memory.{SameLenders, content, memory};
 
 use crate::fault::DrillFault;
 use crate::memory::Memory;
-use laws::perform::perform;
 use orders::answer::Answer;
 use orders::order::Order;
-use sheet::listing::{Position, write_listing};
+use session::perform::perform;
+use sheet::listing::write_listing;
+use sheet::page::Position;
 use sheet::read::{Reading, read};
 use wire::channel::Channel;
 
@@ -24,7 +25,7 @@ fn play<'a, C: Channel>(
     at: &mut Position,
 ) -> Result<usize, DrillFault<'a>>
     requires { reading.count ≤ length orders.now }
-    ensures { Plays reading.settings reading.count (desk (C.held c.old) (C.places c.old) orders.now answers.old out.old at.old.len) (desk (C.held c.new) (C.places c.new) orders.now answers.new out.new at.new.len) result }
+    ensures { Plays reading.settings reading.count (C.contents c.old) (memory orders.now answers.old out.old at.old.len) (C.contents c.new) (memory orders.now answers.new out.new at.new.len) result }
 {
     let n = reading.count;
     let _register = perform(reading.settings, c, &orders[..n], answers)?;
@@ -38,7 +39,7 @@ pub fn drill<'a, C: Channel>(
     c: &mut C,
     memory: &mut Memory,
 ) -> Result<usize, DrillFault<'a>>
-    ensures drilled { Drills sheet.now (on_desk (C.held c.old) (C.places c.old) memory.old) (on_desk (C.held c.new) (C.places c.new) memory.new) result }
+    ensures drilled { Drills sheet.now (C.contents c.old) (content memory.old) (C.contents c.new) (content memory.new) result }
     ensures lent { SameLenders memory.old memory.new }
 {
     let orders = &mut *memory.orders;

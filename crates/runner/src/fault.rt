@@ -1,7 +1,7 @@
 //! What can go wrong in a drill; the lower fault is carried whole.
 ghost use Rattle.std.specs.Prelude.{◌≡◌, Some};
 ghost use Rattle.runner.specs.declared.fault.DrillFault.TheVariants.{Sheet, Register};
-ghost use Rattle.runner.specs.Faults.{fault_number, fault_line, fault_text};
+ghost use Rattle.runner.specs.Fault.{fault_number, fault_line, fault_text};
 
 use register::fault::RegisterFault;
 use sheet::fault::SheetFault;
@@ -54,7 +54,7 @@ impl<'a> DrillFault<'a> {
     }
 
     /// The sheet's line, 0 for a listing; 2, the line of the settings, for the register and the channel.
-    pub fn line(self) -> u32
+    pub fn line(self) -> usize
         ensures { result ≡ fault_line self.entry }
     {
         match self {

@@ -7,10 +7,10 @@ use Rattle.std.proofs.lemmas.Bool.{and_parts, and_left, and_right, cases_eq, con
 use Rattle.std.proofs.lemmas.Bool.Decides.{nat_tests}
 use Rattle.orders.specs.declared.order.Order.{Order}
 use Rattle.orders.specs.declared.order.Order.TheVariants.{Write, Read, Tell, Carry, ReplicaOut, ClientOut}
-use Rattle.orders.specs.declared.settings.Settings.{Settings}
-use Rattle.sheet.specs.Words.{in_word, is_digit, all_digits, numeral, negated, amount}
+use Rattle.settings.specs.declared.given.Settings.{Settings}
+use Rattle.sheet.specs.Word.{in_word, is_digit, all_digits, numeral, negated, amount}
 use Rattle.sheet.specs.Form.{number, value, kind, Placed, placed, number_max, orders_max, head_words, order_words, kind_of, SmallValue, SmallSettings, FineOrder}
-use Rattle.sheet.specs.Faults.{formed, above}
+use Rattle.sheet.specs.FirstFault.{formed, above}
 use Rattle.sheet.proofs.Numbers.{own}
 use Rattle.sheet.proofs.Unique.{Plain, Good}
 

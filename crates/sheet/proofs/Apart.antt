@@ -10,10 +10,10 @@ use Rattle.std.proofs.lemmas.Slice.Eq.{bytes_eq-Decides}
 use Rattle.std.proofs.lemmas.Bool.{cases_Bool}
 use Rattle.orders.specs.declared.order.Order.{Order}
 use Rattle.orders.specs.declared.order.Order.TheVariants.{Write, Read, Tell, Carry, ReplicaOut, ClientOut}
-use Rattle.orders.specs.declared.settings.Settings.{Settings}
-use Rattle.sheet.specs.Words.{closed}
+use Rattle.settings.specs.declared.given.Settings.{Settings}
+use Rattle.sheet.specs.Word.{closed}
 use Rattle.sheet.specs.Form.{Due, number, value, kind, Placed, placed, number_max, orders_max, head_words, order_words, lines_of, kind_of, bytes_of, SmallValue, SmallOrder, SmallSettings, FineOrder}
-use Rattle.sheet.specs.Kinds.{behind_kind}
+use Rattle.sheet.specs.Kind.{behind_kind}
 use Rattle.sheet.proofs.Unique.{Good, words_in, unique, peel}
 use Rattle.sheet.proofs.Admitted.{Admitted, head_admitted, order_admitted}
 use Rattle.sheet.proofs.Refuted.{Matches}

@@ -1,7 +1,7 @@
 -- A word that is judged, and its separator: what a field means for the words that are due; it ends in `stepped` and `counted`.
 use Rattle.std.proofs.Common.{◌≡◌, ℕ, ◌≤◌, List, [], ◌∷◌, decimal, Ok, Err, Bor, Result, MatchResult, subst, arith}
 use Rattle.sheet.specs.declared.fault.SheetFault.{SheetFault}
-use Rattle.sheet.specs.Shown.{shown}
+use Rattle.sheet.specs.Fault.{shown}
 use Rattle.sheet.specs.Form.{Due, placed, number, orders_max}
 use Rattle.sheet.specs.Steps.{Closed, Unfit, Counts, Uncounted, Fielded, missing, refused, unclosed, Stepped, Counted, wrong}
 use Rattle.sheet.proofs.Counting.{miscounted_word}

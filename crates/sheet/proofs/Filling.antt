@@ -5,8 +5,8 @@ use Rattle.std.proofs.lemmas.List.{take_more_set, flat_map_more, drop-set-lt, dr
 use Rattle.std.proofs.ByRecursion.{All-push}
 use Rattle.orders.specs.declared.order.Order.{Order}
 use Rattle.orders.specs.declared.order.Order.TheVariants.{Write, Read, Tell, Carry, ReplicaOut, ClientOut}
-use Rattle.sheet.specs.Shown.{Shown}
-use Rattle.sheet.specs.Faults.{Fault}
+use Rattle.sheet.specs.Fault.{Shown}
+use Rattle.sheet.specs.FirstFault.{Fault}
 use Rattle.sheet.specs.Form.{Placed, bytes_of, lines_in, lines_of, order_words, FineOrder}
 use Rattle.sheet.specs.Steps.{Took, Filled, Missed, Stopped}
 use Rattle.sheet.proofs.Walks.{both}

@@ -1,7 +1,7 @@
 -- Writing some bytes and then others is writing both; it ends in `then_more` and `none_more`.
 use Rattle.std.proofs.Common.{◌≡◌, ℕ, ◌≤◌, Bool, true, false, List, ◌++◌, length, take, sym, ap, ◌∙◌, append_assoc, arith, length-append}
 use Rattle.std.proofs.lemmas.List.{take-take, take_at, length-take-le}
-use Rattle.sheet.specs.Listing.{Put}
+use Rattle.sheet.specs.Page.{Put}
 
 take_below : (a b : List ℕ) (p e : ℕ) → p ≤ e → take e a ≡ take e b → take p a ≡ take p b
 take_below a b p e h q = sym (take-take p e a h) ∙ ap (take p) q ∙ take-take p e b h

@@ -6,7 +6,7 @@ use Rattle.orders.specs.declared.order.Order.TheVariants as order
 use Rattle.sheet.specs.declared.fault.SheetFault.{SheetFault}
 use Rattle.sheet.specs.declared.kind.Kind.{Kind}
 use Rattle.sheet.specs.declared.kind.Kind.TheVariants.{Write, Read, Tell, Carry, ReplicaOut, ClientOut}
-use Rattle.sheet.specs.Kinds.{behind_kind, OfKind}
+use Rattle.sheet.specs.Kind.{behind_kind, OfKind}
 use Rattle.sheet.specs.Steps.{Stepped, Took}
 
 -- some admitted order of a kind

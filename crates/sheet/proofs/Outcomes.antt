@@ -3,11 +3,11 @@ use Rattle.std.proofs.Common.{◌≡◌, ℕ, ◌+◌, List, [], ◌++◌, lengt
 use Rattle.std.proofs.lemmas.List.{append-nil, length-take-le}
 use Rattle.orders.specs.declared.order.Order.{Order}
 use Rattle.sheet.specs.declared.read.Reading.{Reading}
-use Rattle.sheet.specs.Shown.{Shown, shows}
+use Rattle.sheet.specs.Fault.{Shown, shows}
 use Rattle.sheet.specs.Form.{head_words, lines_of, order_words, bytes_of, sheet_of, Writable}
-use Rattle.sheet.specs.Faults.{Fault, in_head, crowded, in_order, behind}
+use Rattle.sheet.specs.FirstFault.{Fault, in_head, crowded, in_order, behind}
 use Rattle.sheet.specs.Steps.{HeadFault, spoiled, packed, HeadTook, Filled, Stopped}
-use Rattle.sheet.specs.Readings.{Given, Refused}
+use Rattle.sheet.specs.Read.{Given, Refused}
 use Rattle.sheet.proofs.Walks.{both, bytes_append}
 
 pub refused_head : (sheet : List ℕ) (orders : List Order) (f : Shown) → HeadFault (length orders) sheet 1 f → Refused sheet orders orders f

@@ -4,8 +4,8 @@ use Rattle.std.specs.Fmt.{signed_decimal}
 use Rattle.std.specs.List.{flat_map, AllByRecursion}
 use Rattle.orders.specs.declared.order.Order.{Order}
 use Rattle.orders.specs.declared.order.Order.TheVariants.{Write, Read, Tell, Carry, ReplicaOut, ClientOut}
-use Rattle.orders.specs.declared.settings.Settings.{Settings}
-use Rattle.sheet.specs.Words.{closed}
+use Rattle.settings.specs.declared.given.Settings.{Settings}
+use Rattle.sheet.specs.Word.{closed}
 
 -- the largest number and the largest size of a value
 abbrev pub number_max : ℕ

@@ -1,8 +1,9 @@
-pub mod Shown
-pub mod Listing
-pub mod Words
+pub mod FirstFault
 pub mod Form
-pub mod Faults
-pub mod Kinds
+pub mod Kind
+pub mod Listing
+pub mod Page
+pub mod Read
+pub mod Fault
 pub mod Steps
-pub mod Readings
+pub mod Word

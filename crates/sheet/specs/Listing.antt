@@ -1,12 +1,12 @@
 -- The bytes of a listing, and what it means to write some of them after others.
-use Rattle.std.specs.Prelude.{◌≡◌, ℕ, ◌+◌, ◌<◌, ◌≤◌, Bool, true, false, List, [], ◌++◌, length, take, pos, decimal}
+use Rattle.std.specs.Prelude.{◌≡◌, ℕ, ◌+◌, ◌<◌, ◌≤◌, List, [], ◌++◌, length, take, pos, decimal}
 use Rattle.std.specs.Fmt.{signed_decimal}
 use Rattle.std.specs.List.{flat_map}
-use Rattle.orders.specs.Answers.{listed_as}
+use Rattle.orders.specs.Answer.{listed_as}
 use Rattle.orders.specs.declared.answer.Answer.{Answer}
 use Rattle.orders.specs.declared.answer.Listed.{Listed}
-use Rattle.sheet.specs.Words.{closed}
-use Rattle.sheet.specs.Shown.{Shown, shows}
+use Rattle.sheet.specs.Word.{closed}
+use Rattle.sheet.specs.Fault.{Shown, shows}
 
 -- version, value and rounds, and a line end
 abbrev pub end_of : Listed → List ℕ
@@ -23,16 +23,6 @@ plain_answer code who = record { code = code; who = who; version = 0; value = po
 -- a listing: a line for each answer
 abbrev pub listing_of : List Answer → List ℕ
 listing_of answers = flat_map (λ a. line_of (listed_as a)) answers
-
--- from space a with p bytes to space b with q bytes: bs stand behind what was there, or do not fit and what was there stays
-abbrev pub Put : List ℕ → ℕ → List ℕ → ℕ → List ℕ → Bool → Type 0
-Put a p b q bs true = (q ≡ p + length bs) × (q ≤ length a) × (take q b ≡ take p a ++ bs)
-Put a p b q bs false = (length a < p + length bs) × (take p b ≡ take p a)
-
--- the same, and where they do not fit the length is as it was
-abbrev pub Lined : List ℕ → ℕ → List ℕ → ℕ → List ℕ → Bool → Type 0
-Lined a p b q bs true = (q ≡ p + length bs) × (q ≤ length a) × (take q b ≡ take p a ++ bs)
-Lined a p b q bs false = (length a < p + length bs) × (q ≡ p) × (take p b ≡ take p a)
 
 -- all lines stand in the space, and n bytes are written
 pub record Written (answers : List Answer) (out : List ℕ) (len n : ℕ) : Type 0 where

@@ -3,14 +3,15 @@ use Rattle.std.specs.Borrow.{Bor}
 use Rattle.std.specs.Prelude.{Ok, Err, length, ◌≡◌, ℕ, ◌+◌, ◌<◌, ◌≤◌, true, false, cond, List, [], ◌∷◌, ◌++◌, take, drop, ℤ, decimal, Result, MatchResult, ◌==◌, ◌≢◌}
 use Rattle.std.specs.List.{AllByRecursion}
 use Rattle.orders.specs.declared.order.Order.{Order}
-use Rattle.orders.specs.declared.settings.Settings.{Settings}
+use Rattle.settings.specs.declared.given.Settings.{Settings}
 use Rattle.std.specs.Fmt.{signed_decimal}
 use Rattle.sheet.specs.declared.fault.SheetFault.{SheetFault}
 use Rattle.sheet.specs.declared.read.Reading.{Reading}
-use Rattle.sheet.specs.Shown.{Shown, shows, shown}
-use Rattle.sheet.specs.Words.{word_of, closed}
+use Rattle.sheet.specs.declared.cursor.Cursor.{Cursor}
+use Rattle.sheet.specs.Fault.{Shown, shows, shown}
+use Rattle.sheet.specs.Word.{word_of, closed}
 use Rattle.sheet.specs.Form.{Due, number, Placed, number_words, bytes_of, lines_in, title_words, settings_words, orders_words, head_words, lines_of, order_words, orders_max, SmallValue, SmallSettings, FineOrder}
-use Rattle.sheet.specs.Faults.{formed, above, Fault}
+use Rattle.sheet.specs.FirstFault.{formed, above, Fault}
 
 -- the word writes the number, which is within its limit
 pub record Counts (limit : ℕ) (word : List ℕ) (n : ℕ) : Type 0 where
@@ -126,3 +127,29 @@ pub record HeadTook (places : ℕ) (g : Reading) (rest : List ℕ) (line : ℕ) 
   pub small : SmallSettings g.settings
   pub room : Placeable places g.count
   pub took : Took (head_words g.settings g.count) rest line rest' line'
+
+-- ---- the same over a cursor, before and after
+
+-- a value is read, or the bytes fail at the words of some admitted value
+abbrev pub Reads : {A : Type 0} → (A → Type 0) → (A → List Placed) → Cursor → Cursor → Result A SheetFault → Type 0
+Reads Fine words c c' r = Stepped Fine words c.rest.now c.line c'.rest.now c'.line r
+
+-- a word that is judged so, and its separator
+abbrev pub ReadsField : {A : Type 0} → (Bor (List ℕ) → Result A SheetFault → Type 0) → ℕ → Cursor → Cursor → Result A SheetFault → Type 0
+ReadsField Judged separator c c' r = Fielded Judged separator c.rest.now c.line c'.rest.now c'.line r
+
+-- the number of orders behind these words
+abbrev pub ReadsCount : List Placed → ℕ → Cursor → Cursor → Result ℕ SheetFault → Type 0
+ReadsCount ps places c c' r = Counted ps places c.rest.now c.line c'.rest.now c'.line r
+
+-- a judged word and its separator are taken
+abbrev pub Closes : {A : Type 0} → List ℕ → ℕ → Cursor → Cursor → Result A SheetFault → Type 0
+Closes word separator c c' r = MatchResult r (λ _. Closed word separator c.rest.now c.line c'.rest.now c'.line) (λ f. Unclosed word separator c.rest.now c.line (shown f))
+
+-- the first three lines are taken
+abbrev pub ReadsHead : ℕ → Cursor → Cursor → Result Reading SheetFault → Type 0
+ReadsHead places c c' r = MatchResult r (λ g. HeadTook places g c.rest.now c.line c'.rest.now c'.line) (λ f. HeadFault places c.rest.now c.line (shown f))
+
+-- the orders are taken and filled
+abbrev pub Fills : {A : Type 0} → ℕ → Cursor → List Order → List Order → Cursor → Result A SheetFault → Type 0
+Fills count c before after c' r = MatchResult r (λ _. Filled count c.rest.now c.line before after c'.rest.now c'.line) (λ f. Stopped count c.rest.now c.line before after (shown f))

@@ -1,20 +1,21 @@
 //! A cursor over a sheet: it takes a word and its separator at a time, and counts line ends.
-ghost use Rattle.std.specs.Prelude.{◌≡◌, ◌^◌, ◌<◌, [], length, MatchResult, ◌≢◌};
-ghost use Rattle.sheet.specs.Shown.{shown, shows};
-ghost use Rattle.sheet.specs.Words.{word_of};
-ghost use Rattle.sheet.specs.Steps.{Closed, Unclosed};
+ghost use Rattle.std.specs.Prelude.{◌≡◌, ◌+◌, ◌^◌, ◌<◌, [], length, MatchResult, ◌≢◌};
+ghost use Rattle.sheet.specs.Fault.{shown, shows};
+ghost use Rattle.sheet.specs.Word.{word_of};
 
 use crate::fault::SheetFault;
 use crate::word::word_len;
 
-// Stays: each step bounds the line in its `requires`. Tried as a ghost field, `line + length rest.now < 2 ^ 32`: the proof didn't close where `read` makes the cursor (`invariant_of-cursor`), for a sheet may be longer.
 #[derive(Drop)]
 pub(crate) struct Cursor<'a> {
     pub(crate) rest: &'a [u8],
-    pub(crate) line: u32,
+    pub(crate) line: usize,
+    ghost counted: { line + length rest.now < 2 ^ 64 },
 }
 
 impl<'a> Cursor<'a> {
+    ghost use Rattle.sheet.specs.Steps.{Closes};
+
     // The word that stands next.
     pub(crate) fn word(&self) -> Result<&'a [u8], SheetFault<'a>>
         ensures { MatchResult result (λ w. (w.now ≡ word_of self.now.rest.now) × (0 < length self.now.rest.now)) (λ f. (self.now.rest.now ≡ []) × (shown f ≡ shows 33 self.now.line [])) }
@@ -28,16 +29,15 @@ impl<'a> Cursor<'a> {
 
     // Takes a judged word and the separator that is due behind it.
     pub(crate) fn close(&mut self, word: &'a [u8], separator: u8) -> Result<(), SheetFault<'a>>
-        requires early { self.old.line < 2 ^ 31 }
         requires next { word.now ≡ word_of self.old.rest.now }
-        ensures { MatchResult result (λ _. Closed word.now separator self.old.rest.now self.old.line self.new.rest.now self.new.line) (λ f. Unclosed word.now separator self.old.rest.now self.old.line (shown f)) }
+        ensures { Closes word.now separator self.old self.new result }
     {
         let line = self.line;
         match self.rest[word.len()..].split_first() {
             None => Err(SheetFault::Ended { line }),
             Some((found, rest)) if *found == separator => {
                 self.rest = rest;
-                self.line += u32::from(separator == b'\n');
+                self.line += usize::from(separator == b'\n');
                 Ok(())
             }
             Some(_) => Err(SheetFault::Form { line, word }),

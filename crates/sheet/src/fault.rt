@@ -1,21 +1,21 @@
 //! What is wrong with a sheet or a listing: number, line and word.
 ghost use Rattle.std.specs.Prelude.{◌≡◌};
-ghost use Rattle.sheet.specs.Shown.{shown};
+ghost use Rattle.sheet.specs.Fault.{shown};
 
 /// What is wrong. A word is a part of the sheet, and lines count from 1.
 // Stays: the product's rules name this form: a fault that returns a part of the input with its line.
 #[derive(Clone, Copy, Debug, PartialEq, Eq)]
 pub enum SheetFault<'a> {
     /// a word or a separator is not of the form
-    Form { line: u32, word: &'a [u8] },
+    Form { line: usize, word: &'a [u8] },
     /// a number is above its limit
-    Limit { line: u32, word: &'a [u8] },
+    Limit { line: usize, word: &'a [u8] },
     /// the sheet ends where a word or a separator is due
-    Ended { line: u32 },
+    Ended { line: usize },
     /// bytes stand after the last order
-    Surplus { line: u32, word: &'a [u8] },
+    Surplus { line: usize, word: &'a [u8] },
     /// the sheet has more orders than there are places handed in
-    Orders { line: u32, word: &'a [u8] },
+    Orders { line: usize, word: &'a [u8] },
     /// the listing's space is too short
     Listing,
 }
@@ -37,7 +37,7 @@ impl<'a> SheetFault<'a> {
     }
 
     /// 0 for a listing.
-    pub fn line(self) -> u32
+    pub fn line(self) -> usize
         ensures { result ≡ (shown self.entry).line }
     {
         match self {

@@ -1,20 +1,19 @@
 //! The first three lines of a sheet: the title, the settings and the number of orders.
 ghost use Rattle.std.specs.Prelude.{◌≡◌, ◌^◌, ◌<◌, MatchResult};
-ghost use Rattle.sheet.specs.Shown.{shown};
+ghost use Rattle.sheet.specs.Fault.{shown};
 ghost use Rattle.sheet.specs.Form.{title_words, settings_words, orders_words, SmallSettings};
-ghost use Rattle.sheet.specs.Steps.{Stepped, Counted, HeadTook, HeadFault};
+ghost use Rattle.sheet.specs.Steps.{Reads, ReadsCount, ReadsHead};
 
 use crate::cursor::Cursor;
 use crate::fault::SheetFault;
 use crate::number::count_in;
 use crate::read::Reading;
-use orders::limits::NUMBER_MAX;
-use orders::settings::Settings;
+use settings::given::Settings;
+use settings::limits::NUMBER_MAX;
 
 impl<'a> Cursor<'a> {
     pub(crate) fn head(&mut self, places: usize) -> Result<Reading, SheetFault<'a>>
-        requires early { self.old.line < 2 ^ 20 }
-        ensures { MatchResult result (λ g. HeadTook places g self.old.rest.now self.old.line self.new.rest.now self.new.line) (λ f. HeadFault places self.old.rest.now self.old.line (shown f)) }
+        ensures { ReadsHead places self.old self.new result }
     {
         self.title()?;
         let settings = self.settings()?;
@@ -23,16 +22,14 @@ impl<'a> Cursor<'a> {
     }
 
     fn title(&mut self) -> Result<(), SheetFault<'a>>
-        requires early { self.old.line < 2 ^ 30 }
-        ensures { Stepped (λ _. Unit {0}) (λ _. title_words) self.old.rest.now self.old.line self.new.rest.now self.new.line result }
+        ensures { Reads (λ _. Unit {0}) (λ _. title_words) self.old self.new result }
     {
         self.fixed(b"settings", b' ')?;
         self.fixed(b"5", b'\n')
     }
 
     fn settings(&mut self) -> Result<Settings, SheetFault<'a>>
-        requires early { self.old.line < 2 ^ 30 }
-        ensures { Stepped SmallSettings settings_words self.old.rest.now self.old.line self.new.rest.now self.new.line result }
+        ensures { Reads SmallSettings settings_words self.old self.new result }
     {
         Ok(Settings {
             replicas: self.number(NUMBER_MAX, b' ')?,
@@ -45,8 +42,7 @@ impl<'a> Cursor<'a> {
 
     // `orders` and their number.
     fn count(&mut self, places: usize) -> Result<usize, SheetFault<'a>>
-        requires early { self.old.line < 2 ^ 30 }
-        ensures { Counted orders_words places self.old.rest.now self.old.line self.new.rest.now self.new.line result }
+        ensures { ReadsCount orders_words places self.old self.new result }
     {
         self.fixed(b"orders", b' ')?;
         self.field(|word, line| count_in(word, places, line), b'\n')

@@ -10,5 +10,6 @@ mod kind;
 pub mod listing;
 mod number;
 mod order;
+pub mod page;
 pub mod read;
-pub mod word;
+mod word;

@@ -1,68 +1,15 @@
 //! The listing writer: whole lines, or none of a line that does not fit.
-ghost use Rattle.std.specs.Prelude.{◌≡◌, ◌+◌, ◌<◌, decimal, is_ok, IfErr, if◌then◌else◌, MatchResult};
+ghost use Rattle.std.specs.Prelude.{◌≡◌, is_ok, IfErr, MatchResult};
 ghost use Rattle.sheet.specs.declared.fault.SheetFault.TheVariants.{Listing};
-ghost use Rattle.sheet.specs.Shown.{shown};
-ghost use Rattle.sheet.specs.Words.{closed};
-ghost use Rattle.sheet.specs.Listing.{Put, Lined, plain_answer, line_of, Written, CutShort};
+ghost use Rattle.sheet.specs.Fault.{shown};
+ghost use Rattle.sheet.specs.Page.{Put, Lined};
+ghost use Rattle.sheet.specs.Listing.{plain_answer, line_of, Written, CutShort};
 
 use crate::fault::SheetFault;
-use itoa::{Buffer, Integer};
+use crate::page::{Full, LineGuard, Position, digit};
 use orders::answer::{Answer, Listed};
 
-// Stays: no twin of a channel's `Full`: no byte more fits, and this crate knows no channel.
-#[derive(Clone, Copy)]
-struct Full;
-
-/// Where a listing stands: how many bytes of its space are written.
-#[derive(Clone, Copy)]
-pub struct Position {
-    pub len: usize,
-}
-
-// The digit of a number below 10.
-fn digit(n: u32) -> u8
-    requires { n < 10 }
-    ensures { result ≡ 48 + n }
-{
-    b'0' + n as u8
-}
-
 impl Position {
-    fn bytes(&mut self, out: &mut [u8], text: &[u8]) -> Result<(), Full>
-        ensures { Put out.old self.old.len out.new self.new.len text.now (is_ok result) }
-    {
-        let end = self.len.checked_add(text.len()).ok_or(Full)?;
-        if end > out.len() {
-            return Err(Full);
-        }
-        out[self.len..end].copy_from_slice(text);
-        self.len = end;
-        Ok(())
-    }
-
-    // A number or a value, and its separator.
-    fn closed<I: Integer>(&mut self, out: &mut [u8], n: I, separator: u8) -> Result<(), Full>
-        ensures { Put out.old self.old.len out.new self.new.len (closed (I.text n) separator) (is_ok result) }
-    {
-        self.bytes(out, Buffer::new().format(n).as_bytes())?;
-        self.bytes(out, &[separator])
-    }
-
-    // A number and its separator. Most are short, and a buffer for any number costs a short one several times as much.
-    // Inlined, as `plain` and `line` are, so that a line goes from its answer to the space with no call between.
-    #[inline(always)]
-    fn number(&mut self, out: &mut [u8], n: u32, separator: u8) -> Result<(), Full>
-        ensures { Put out.old self.old.len out.new self.new.len (closed (decimal n) separator) (is_ok result) }
-    {
-        if n < 10 {
-            return self.bytes(out, &[digit(n), separator]);
-        }
-        if n < 100 {
-            return self.bytes(out, &[digit(n / 10), digit(n % 10), separator]);
-        }
-        self.closed(out, n, separator)
-    }
-
     // A line that shows no version, value and rounds, as most do. With a code from 100 to 109 and a short who it is one array,
     // which costs less than its words one by one.
     #[inline(always)]
@@ -104,31 +51,8 @@ impl Position {
     }
 }
 
-/// Puts the length back to where the line began, unless the line was completed.
-// Stays: the product's rules name this form: a guard on the position alone, which puts the length back unless the line was completed; so the flag, and so space and position travel as two.
-pub struct LineGuard<'a> {
-    at: &'a mut Position,
-    start: usize,
-    complete: bool,
-}
-
-impl Drop for LineGuard<'_> {
-    fn drop(self)
-        ensures len { self.exit.0.now.len ≡ (if self.entry.complete then self.entry.at.now.len else self.entry.start) }
-    {
-        if !self.complete {
-            self.at.len = self.start;
-        }
-        let LineGuard {
-            at: _,
-            start: _,
-            complete: _,
-        } = self;
-    }
-}
-
 /// A line, or nothing: the length is then where it was.
-pub fn write_line(
+pub(crate) fn write_line(
     listed: Listed,
     out: &mut [u8],
     at: &mut Position,

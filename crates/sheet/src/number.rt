@@ -1,13 +1,13 @@
 //! Numbers and values: a word is judged, its form before its size.
 ghost use Rattle.std.specs.Prelude.{◌≡◌, ◌^◌, ◌<◌, ◌≤◌, true, MatchOption, MatchResult};
-ghost use Rattle.sheet.specs.Words.{amount, numeral};
-ghost use Rattle.sheet.specs.Shown.{shown, shows};
+ghost use Rattle.sheet.specs.Word.{amount, numeral};
+ghost use Rattle.sheet.specs.Fault.{shown, shows};
 ghost use Rattle.sheet.specs.Form.{number, value, fixed};
 ghost use Rattle.sheet.specs.Steps.{Counts, Values, Unfit, Uncounted};
 
 use crate::fault::SheetFault;
 use crate::word::Word;
-use orders::limits::{NUMBER_MAX, ORDERS_MAX};
+use settings::limits::{NUMBER_MAX, ORDERS_MAX};
 use std::str;
 
 // The number that digits write, where it is below 2 ^ 32.
@@ -20,7 +20,12 @@ fn amount_of(digits: &[u8]) -> Option<u32>
 
 // The number that the digits of a word write, up to a limit.
 // Stays: a word and its line go as two parameters, here and below: each fault holds the two as fields of its own, and a struct of both would be taken apart at every fault.
-fn bounded<'a>(word: &'a [u8], digits: &[u8], limit: u32, line: u32) -> Result<u32, SheetFault<'a>>
+fn bounded<'a>(
+    word: &'a [u8],
+    digits: &[u8],
+    limit: u32,
+    line: usize,
+) -> Result<u32, SheetFault<'a>>
     requires { numeral digits.now ≡ true }
     ensures { MatchResult result (λ n. (n ≡ amount digits.now) × (n ≤ limit)) (λ f. (limit < amount digits.now) × (shown f ≡ shows 32 line word.now)) }
 {
@@ -29,7 +34,7 @@ fn bounded<'a>(word: &'a [u8], digits: &[u8], limit: u32, line: u32) -> Result<u
         .ok_or(SheetFault::Limit { line, word })
 }
 
-pub(crate) fn number_in<'a>(word: &'a [u8], limit: u32, line: u32) -> Result<u32, SheetFault<'a>>
+pub(crate) fn number_in<'a>(word: &'a [u8], limit: u32, line: usize) -> Result<u32, SheetFault<'a>>
     ensures { MatchResult result (λ n. Counts limit word.now n) (λ f. Unfit (number limit) word.now line (shown f)) }
 {
     match Word::judge(word) {
@@ -38,7 +43,7 @@ pub(crate) fn number_in<'a>(word: &'a [u8], limit: u32, line: u32) -> Result<u32
     }
 }
 
-pub(crate) fn value_in<'a>(word: &'a [u8], line: u32) -> Result<i32, SheetFault<'a>>
+pub(crate) fn value_in<'a>(word: &'a [u8], line: usize) -> Result<i32, SheetFault<'a>>
     ensures { MatchResult result (λ z. Values word.now z) (λ f. Unfit value word.now line (shown f)) }
 {
     match Word::judge(word) {
@@ -48,7 +53,7 @@ pub(crate) fn value_in<'a>(word: &'a [u8], line: u32) -> Result<i32, SheetFault<
     }
 }
 
-pub(crate) fn fixed_in<'a>(word: &'a [u8], text: &[u8], line: u32) -> Result<(), SheetFault<'a>>
+pub(crate) fn fixed_in<'a>(word: &'a [u8], text: &[u8], line: usize) -> Result<(), SheetFault<'a>>
     ensures { MatchResult result (λ _. word.now ≡ text.now) (λ f. Unfit (fixed text.now) word.now line (shown f)) }
 {
     if word == text {
@@ -61,7 +66,7 @@ pub(crate) fn fixed_in<'a>(word: &'a [u8], text: &[u8], line: u32) -> Result<(),
 pub(crate) fn count_in<'a>(
     word: &'a [u8],
     places: usize,
-    line: u32,
+    line: usize,
 ) -> Result<usize, SheetFault<'a>>
     ensures { MatchResult result (λ n. Counts 4096 word.now n × (n ≤ places)) (λ f. Uncounted places word.now line (shown f)) }
 {

@@ -1,19 +1,18 @@
 //! The line of one order.
 ghost use Rattle.std.specs.Prelude.{◌≡◌, ◌^◌, ◌<◌};
 ghost use Rattle.sheet.specs.Form.{order_words, FineOrder};
-ghost use Rattle.sheet.specs.Kinds.{kind_words, behind_kind, OfKind};
-ghost use Rattle.sheet.specs.Steps.{Stepped};
+ghost use Rattle.sheet.specs.Kind.{kind_words, behind_kind, OfKind};
+ghost use Rattle.sheet.specs.Steps.{Reads};
 
 use crate::cursor::Cursor;
 use crate::fault::SheetFault;
 use crate::kind::{Kind, kind_in};
-use orders::limits::NUMBER_MAX;
 use orders::order::Order;
+use settings::limits::NUMBER_MAX;
 
 impl<'a> Cursor<'a> {
     pub(crate) fn order(&mut self) -> Result<Order, SheetFault<'a>>
-        requires early { self.old.line < 2 ^ 30 }
-        ensures { Stepped FineOrder order_words self.old.rest.now self.old.line self.new.rest.now self.new.line result }
+        ensures { Reads FineOrder order_words self.old self.new result }
     {
         let kind = self.kind()?;
         self.order_of(kind)
@@ -21,8 +20,7 @@ impl<'a> Cursor<'a> {
 
     // Stays: no call of `field`, since the separator depends on what the word is.
     fn kind(&mut self) -> Result<Kind, SheetFault<'a>>
-        requires early { self.old.line < 2 ^ 31 }
-        ensures { Stepped (λ _. Unit {0}) kind_words self.old.rest.now self.old.line self.new.rest.now self.new.line result }
+        ensures { Reads (λ _. Unit {0}) kind_words self.old self.new result }
     {
         let word = self.word()?;
         let kind = kind_in(word, self.line)?;
@@ -32,8 +30,7 @@ impl<'a> Cursor<'a> {
 
     // What the order is about.
     fn order_of(&mut self, kind: Kind) -> Result<Order, SheetFault<'a>>
-        requires early { self.old.line < 2 ^ 31 }
-        ensures { Stepped (OfKind kind) behind_kind self.old.rest.now self.old.line self.new.rest.now self.new.line result }
+        ensures { Reads (OfKind kind) behind_kind self.old self.new result }
     {
         // Stays: a kind is read from the sheet before its number, so an enum holds it; a function pointer may not be handed out.
         match kind {

@@ -1,14 +1,14 @@
 //! The sheet reader: settings are handed over, and orders are filled into the places handed in.
 ghost use Rattle.std.specs.Prelude.{◌≡◌, ◌≤◌, List, length};
-ghost use Rattle.sheet.specs.Shown.{Shown};
-ghost use Rattle.sheet.specs.Faults.{FirstFault};
+ghost use Rattle.sheet.specs.Fault.{Shown};
+ghost use Rattle.sheet.specs.FirstFault.{FirstFault};
 ghost use Rattle.sheet.specs.Form.{Writable, sheet_of};
-ghost use Rattle.sheet.specs.Readings.{Outcome, GivenAs, RefusedAs};
+ghost use Rattle.sheet.specs.Read.{Outcome, GivenAs, RefusedAs};
 
 use crate::cursor::Cursor;
 use crate::fault::SheetFault;
 use orders::order::Order;
-use orders::settings::Settings;
+use settings::given::Settings;
 
 /// What a sheet gives: its settings, and how many orders were filled.
 #[derive(Clone, Copy)]

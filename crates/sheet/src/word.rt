@@ -1,7 +1,7 @@
 //! Words of a sheet: how far one runs, and which sort it is.
 ghost use Rattle.std.specs.Prelude.{◌≡◌};
 ghost use Rattle.std.specs.List.{prefix_len};
-ghost use Rattle.sheet.specs.Words.{in_word, numeral, sort_of, sorted};
+ghost use Rattle.sheet.specs.Word.{in_word, numeral, sort_of, sorted};
 
 /// A judged word. Each case holds a part of the sheet.
 // Stays: the product's rules name this form: an enum whose cases hold parts of the input.

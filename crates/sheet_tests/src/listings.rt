@@ -1,6 +1,7 @@
 //! Listings that fit, and one that is cut short.
 use orders::answer::{Answer, Ending};
-use sheet::listing::{Position, write_listing};
+use sheet::listing::write_listing;
+use sheet::page::Position;
 use std::test::Fail;
 
 const ANSWERS: [Answer; 2] = [

@@ -1,3 +1,2 @@
-pub mod Kinds
 pub mod Channel
-pub mod Ring
+pub mod Kind

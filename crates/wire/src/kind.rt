@@ -1,6 +1,6 @@
 //! The six kinds of message, by name and by number.
 ghost use Rattle.std.specs.Prelude.{◌≡◌, ◌+◌, nat_le};
-ghost use Rattle.wire.specs.Kinds.{kind_of, number_of, Named};
+ghost use Rattle.wire.specs.Kind.{kind_of, number_of, Named};
 
 /// What a message is about: 1 to 3 ask a replica, 4 to 6 are its replies to a client.
 #[derive(Debug, Clone, Copy, PartialEq, Eq)]

@@ -4,4 +4,3 @@
 pub mod channel;
 pub mod kind;
 pub mod message;
-pub mod queue;

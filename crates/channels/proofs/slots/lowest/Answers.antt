@@ -1,7 +1,7 @@
 -- What the search leaves to show of `lowest`.
 use Rattle.std.proofs.Common.{◌+◌, refl}
 use mathlib.Core.Path.{subst⁻¹}
-use Rattle.channels.specs.Slots.{Found}
+use Rattle.channels.specs.Table.{Found}
 use Rattle.channels.proofs.Slotted.{found_more}
 use Rattle.channels.proofs.slots.lowest.Goals as goal
 

@@ -1,5 +1,5 @@
 -- The invariant of the loop of `lowest`.
-use Rattle.channels.specs.Slots.{Found}
+use Rattle.channels.specs.Table.{Found}
 use Rattle.channels.proofs.slots.lowest.Given as goal
 
 abbrev pub invariant-loop-i : goal.invariant-loop-i

@@ -1,6 +1,6 @@
 -- The highest version so far.
 use Rattle.std.proofs.Common.{◌≡◌, take}
-use Rattle.quorum.specs.Deciding.{highest_by}
+use Rattle.quorum.specs.Highest.{highest_by}
 use Rattle.quorum.proofs.highest.highest.Given as goal
 
 abbrev pub invariant-loop-s : goal.invariant-loop-s

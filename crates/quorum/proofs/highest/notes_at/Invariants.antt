@@ -1,6 +1,6 @@
 -- How many notes so far.
 use Rattle.std.proofs.Common.{◌≡◌, ◌≤◌, take}
-use Rattle.quorum.specs.Deciding.{notes_at}
+use Rattle.quorum.specs.Highest.{notes_at}
 use Rattle.quorum.proofs.highest.notes_at.Given as goal
 
 abbrev pub invariant-loop-s : goal.invariant-loop-s

@@ -1,6 +1,6 @@
-use Rattle.std.proofs.Common.{sym, ap, ◌∙◌, arith}
+use Rattle.std.proofs.Common.{sym, ◌∙◌, arith}
 use Rattle.std.proofs.lemmas.List.Sorted.{IsPermutation-refl, IsPermutation-append_left, IsPermutation-trans, IsPermutation-sym}
-use Rattle.channels.specs.Delay.{is_later, given, delayed, last}
+use Rattle.channels.specs.Delay.{given, delayed, last}
 use Rattle.channels.proofs.Beside.{put_beside, first_taken, take_beside}
 use Rattle.channels.proofs.delay.DelayChannel.take.Goals as goal
 
@@ -9,7 +9,7 @@ returns-then-not-is_later-clause-meets g c = (IsPermutation-trans _ _ _ c.loop-m
 
 pub returns-then-not-is_later-clause-handed : goal.returns-then-not-is_later-clause-handed
 returns-then-not-is_later-clause-handed g c =
-    c.loop-m.invariant.2 _ _ _ (given _ _ _ _ c.in-Some.ensures.0 (ap (λ n. is_later c.loop-m.self.replica n c.in-Some.m) (sym c.len.ensures.value) ∙ sym c.is_later.ensures ∙ c.if-not-is_later.true))
+    c.loop-m.invariant.2 _ _ _ (given _ _ _ _ c.in-Some.ensures.0 (sym c.is_later.ensures ∙ c.if-not-is_later.true))
 
 pub loop-m-preserved : goal.loop-m-preserved
 loop-m-preserved g c =
@@ -18,7 +18,7 @@ loop-m-preserved g c =
       rw e (IsPermutation-trans _ _ _ c.loop-m.invariant.0 (IsPermutation-trans _ _ _ (IsPermutation-append_left _ _ _ h.0) (IsPermutation-sym _ _ (put_beside _ _ _ _ (IsPermutation-refl _))))),
       omega (arith, h.1, c.push.ensures.len),
       (λ b' p' r k. c.loop-m.invariant.2 b' p' r
-          (delayed _ _ _ _ _ _ c.in-Some.m r h.0 (ap (λ n. is_later c.loop-m.self.replica n c.in-Some.m) (sym c.len.ensures.value) ∙ sym c.is_later.ensures ∙ c.if-not-is_later.false) e k)),
+          (delayed _ _ _ _ _ _ c.in-Some.m r h.0 (sym c.is_later.ensures ∙ c.if-not-is_later.false) e k)),
       c.loop-m.invariant.3,
     )
 

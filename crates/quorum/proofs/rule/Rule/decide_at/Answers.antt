@@ -1,6 +1,6 @@
 -- The parts of what is decided, each by its own call.
 use Rattle.std.proofs.Common.{rules}
-use Rattle.quorum.specs.Deciding.{decided_at}
+use Rattle.quorum.specs.Decide.{decided_at}
 use Rattle.quorum.proofs.Lowest.{lowest_found}
 use Rattle.quorum.proofs.rule.Rule.decide_at.Goals as goal
 

@@ -2,7 +2,7 @@
 use Rattle.std.proofs.Common.{[], arith, rules}
 use Rattle.std.proofs.lemmas.Result.{err_from_is_err_and, MatchResult-weaker}
 use Rattle.sheet.specs.Form.{number_words, orders_max, orders_words}
-use Rattle.sheet.specs.Shown.{shown}
+use Rattle.sheet.specs.Fault.{shown}
 use Rattle.sheet.specs.Steps.{wrong}
 use Rattle.sheet.proofs.Counting.{miscounted_after}
 use Rattle.sheet.proofs.Fields.{counted}

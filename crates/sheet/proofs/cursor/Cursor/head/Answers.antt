@@ -1,6 +1,6 @@
 -- What the search leaves to show of `Cursor::head`.
 use Rattle.std.proofs.lemmas.Result.{err_from_is_err_and}
-use Rattle.sheet.specs.Shown.{shown}
+use Rattle.sheet.specs.Fault.{shown}
 use Rattle.sheet.proofs.Heads.{title_fault, settings_fault, count_fault}
 use Rattle.sheet.proofs.cursor.Cursor.head.Goals as goal
 

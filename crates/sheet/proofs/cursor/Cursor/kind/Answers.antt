@@ -2,8 +2,8 @@
 use Rattle.std.proofs.lemmas.Result.{err_from_is_err_and}
 use Rattle.sheet.specs.declared.kind.Kind.TheVariants.{Carry}
 use Rattle.sheet.specs.Form.{placed, kind}
-use Rattle.sheet.specs.Kinds.{word_for, separator_for}
-use Rattle.sheet.specs.Shown.{shown}
+use Rattle.sheet.specs.Kind.{word_for, separator_for}
+use Rattle.sheet.specs.Fault.{shown}
 use Rattle.sheet.proofs.Walks.{missed_ended, missed_unfit, missed_unclosed}
 use Rattle.sheet.proofs.cursor.Cursor.kind.Goals as goal
 

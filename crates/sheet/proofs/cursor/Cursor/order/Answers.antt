@@ -2,9 +2,9 @@
 use Rattle.std.proofs.Common.{List, sym, subst}
 use Rattle.std.proofs.lemmas.Result.{err_from_is_err_and, MatchResult-weaker}
 use Rattle.sheet.specs.Form.{Placed}
-use Rattle.sheet.specs.Faults.{Fault}
-use Rattle.sheet.specs.Kinds.{behind_kind}
-use Rattle.sheet.specs.Shown.{shown}
+use Rattle.sheet.specs.FirstFault.{Fault}
+use Rattle.sheet.specs.Kind.{behind_kind}
+use Rattle.sheet.specs.Fault.{shown}
 use Rattle.sheet.specs.Steps.{Took}
 use Rattle.sheet.proofs.OrderLines.{sample, sample_fits}
 use Rattle.sheet.proofs.Walks.{later, longer, both}

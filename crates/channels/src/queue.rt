@@ -1,0 +1,99 @@
+//! The first-in first-out queue, a ring in memory that is lent to it.
+ghost use Rattle.std.specs.Prelude.{◌≡◌, ◌<◌, ◌≤◌, [], length};
+ghost use Rattle.channels.specs.Ring.{end_of, first_of};
+
+use wire::channel::{Channel, Full};
+use wire::message::Message;
+
+/// The messages lie in `len` cells from `start` on, going round at the end; a `start` at the end means the first cell.
+// Stays: a ring by hand, since its cells are lent and fixed, and none of the kit's queues lies in lent memory.
+// Stays: ghost fields, and the ring spelled out in the clauses: tried as an `impl Model`, whose view hides these two bounds from callers.
+#[derive(Drop)]
+pub struct Queue<'a> {
+    cells: &'a mut [Message],
+    start: usize,
+    len: usize,
+    ghost within: { start ≤ length cells.now },
+    ghost few: { len ≤ length cells.now },
+}
+
+impl<'a> Queue<'a> {
+    ghost use Rattle.channels.specs.Queue.{queued, contents_of};
+
+    /// Nothing waits, and every cell is a free place; what the cells held is of no account.
+    pub fn new(cells: &'a mut [Message]) -> Self
+        ensures empty { queued result ≡ [] }
+        ensures room { (contents_of result).free ≡ length cells.old }
+        ensures cells { result.cells.now ≡ cells.old }
+        ensures lender { result.cells.ghost_name ≡ cells.entry.ghost_name }
+    {
+        Queue {
+            cells,
+            start: 0,
+            len: 0,
+        }
+    }
+}
+
+// The cell after the last element of a ring.
+fn end_of(start: usize, len: usize, cap: usize) -> usize
+    requires start { start ≤ cap }
+    requires len { len < cap }
+    ensures at { result ≡ end_of start len cap }
+    ensures within { result < cap }
+{
+    let gap = cap - start;
+    if len < gap { start + len } else { len - gap }
+}
+
+// The cell of the first element of a ring.
+fn first_of(start: usize, cap: usize) -> usize
+    requires start { start ≤ cap }
+    requires some { 0 < cap }
+    ensures at { result ≡ first_of start cap }
+    ensures within { result < cap }
+{
+    if start < cap { start } else { 0 }
+}
+
+impl Channel for Queue<'_> {
+    ghost use Rattle.wire.specs.Channel.{Taken};
+    ghost use Rattle.channels.specs.Queue.{Oldest};
+    ghost use Rattle.channels.specs.Queue.{queued, contents_of};
+
+    ghost contents = { contents_of };
+
+    fn put(&mut self, m: Message) -> Result<(), Full> {
+        if self.len >= self.cells.len() {
+            return Err(Full);
+        }
+        let at = end_of(self.start, self.len, self.cells.len());
+        self.cells[at] = m;
+        self.len += 1;
+        Ok(())
+    }
+
+    /// It gives the oldest.
+    fn take(&mut self) -> Option<Message>
+        ensures meets { Taken (contents_of self.old) (contents_of self.new) result }
+        ensures oldest { Oldest (queued self.old) (queued self.new) result }
+    {
+        if self.len == 0 {
+            return None;
+        }
+        let at = first_of(self.start, self.cells.len());
+        let m = self.cells[at];
+        self.start = at + 1;
+        self.len -= 1;
+        Some(m)
+    }
+
+    #[tactic(auto, using(crate::proofs::Rings::length_ring))]
+    fn waiting(&self) -> u32 {
+        u32::try_from(self.len).unwrap_or(u32::MAX)
+    }
+
+    fn free(&self) -> u32 {
+        u32::try_from(self.cells.len() - self.len).unwrap_or(u32::MAX)
+    }
+}

@@ -1,0 +1,62 @@
+-- A client that starts a round, and what it puts out.
+use Rattle.std.specs.Prelude.{ℕ, ◌+◌, ◌*◌, min, ℤ}
+use Rattle.wire.specs.declared.message.Message.{Message}
+use Rattle.orders.specs.declared.order.Order.{Order}
+use Rattle.orders.specs.declared.order.Order.TheVariants.{Write, Read, Tell}
+use Rattle.quorum.specs.Replies.{no_receipts, no_readings}
+use Rattle.settings.specs.declared.checked.Checked.{Checked}
+use Rattle.settings.specs.Checked.{mark_of}
+use Rattle.client.specs.declared.start.Round.{Round}
+use Rattle.client.specs.declared.start.Round.TheVariants.{Write as WriteRound, Read as ReadRound, Tell as TellRound}
+use Rattle.client.specs.declared.client.Phase.TheVariants.{Writing, Asking, Telling}
+use Rattle.client.specs.declared.client.Client.{Client}
+
+-- what a client puts out: its round, what it knows, its own mark, and note 0
+abbrev pub outgoing : Checked → ℕ → ℕ → Client → Message
+outgoing k kind who c =
+    record {
+      kind = kind;
+      replica = 0;
+      client = who;
+      round = c.round;
+      version = c.version;
+      value = c.value;
+      previous = c.previous;
+      marks = mark_of k who;
+      note = 0;
+    }
+
+-- One round more. 32 bits hold it in every register that was opened, so the bound never decides.
+abbrev pub raised : ℕ → ℕ
+raised n = min (n + 1) 4294967295
+
+-- a write takes the new round as its version, and the value written before it as previous
+abbrev pub writing : Client → ℤ → Client
+writing c z = record c { round = raised c.round; version = raised c.round; value = z; previous = c.value; phase = Writing no_receipts }
+
+abbrev pub asking : Client → Client
+asking c = record c { round = raised c.round; phase = Asking no_readings }
+
+abbrev pub telling : Client → Client
+telling c = record c { round = raised c.round; phase = Telling no_receipts }
+
+abbrev pub order_of : Round → Order
+order_of (WriteRound z) = Write z
+order_of (ReadRound c) = Read c
+order_of (TellRound c) = Tell c
+
+abbrev pub kind_of : Round → ℕ
+kind_of (WriteRound z) = 1
+kind_of (ReadRound c) = 2
+kind_of (TellRound c) = 3
+
+-- how many messages it puts out
+abbrev pub count_of : Checked → Round → ℕ
+count_of k (WriteRound z) = k.replicas
+count_of k (ReadRound c) = k.replicas
+count_of k (TellRound c) = 3 * k.tolerated + 1
+
+abbrev pub started : Client → Round → Client
+started c (WriteRound z) = writing c z
+started c (ReadRound r) = asking c
+started c (TellRound r) = telling c

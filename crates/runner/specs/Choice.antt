@@ -1,0 +1,12 @@
+-- How many messages wait at most in a channel of each form.
+use Rattle.std.specs.Prelude.{ℕ, ◌+◌}
+use Rattle.runner.specs.declared.choice.Choice.{Choice}
+use Rattle.runner.specs.declared.choice.Choice.TheVariants.{Queue, Slots, DelayQueue, DelaySlots, DelayTwice}
+
+-- the free places of a new channel of each form: a queue in so many cells, 256 slots, and 64 for each layer
+abbrev pub room_of : Choice → ℕ → ℕ
+room_of Queue cells = cells
+room_of Slots cells = 256
+room_of (DelayQueue n) cells = cells + 64
+room_of (DelaySlots n) cells = 256 + 64
+room_of (DelayTwice n m) cells = (cells + 64) + 64

@@ -1,0 +1,18 @@
+use Rattle.theory.proofs.Stands.{laws}
+use Rattle.session.proofs.Session.{session_lawful}
+use Rattle.session.proofs.perform.perform.Goals as goal
+
+pub returns-in_err-register-clause-laws : goal.returns-in_err-register-clause-laws
+returns-in_err-register-clause-laws g c = laws
+
+pub returns-in_err-run-clause-laws : goal.returns-in_err-run-clause-laws
+returns-in_err-run-clause-laws g c = laws
+
+pub returns-clause-session : goal.returns-clause-session
+returns-clause-session g c =
+    let o = c.in_ok-register.ensures in
+    let r = c.in_ok-run.ensures in
+    (session_lawful _ _ _ _ _ (record { settings = o.settings; accepted = o.accepted; passed = o.passed; ran = rw o.register at r.0 }), r.1, r.2)
+
+pub returns-clause-laws : goal.returns-clause-laws
+returns-clause-laws g c = laws

@@ -1,0 +1,3 @@
+pub mod Range
+pub mod Fault
+pub mod Checked

@@ -1,0 +1,8 @@
+//! Settings: the numbers as given, the numbers that passed, every limit by name, and the mark of a client.
+#![tactic(auto)]
+
+pub mod checked;
+pub mod fault;
+pub mod given;
+pub mod limits;
+pub mod range;

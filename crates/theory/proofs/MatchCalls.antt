@@ -1,0 +1,377 @@
+-- Calls: one that is accepted is a step of the model, as is one that is sent back. It ends in `called_reaches`.
+use Rattle.std.proofs.Common.{◌≡◌, ℕ, zero, suc, ◌+◌, ◌-◌, ◌*◌, ◌%◌, ◌^◌, ◌<◌, ◌≤◌, Bool, true, false, cond, eqb, ltb, leb, List, [], ◌∷◌, ◌++◌, map, length, get_or, set, ℤ, Some, None, Option, sym, refl, ap, ◌∙◌, subst, inl, inr, mul-le-mul_right, arith, lit<, lit≤}
+use Rattle.std.specs.List.{AllByRecursion}
+use Rattle.std.specs.List.Sorted.{IsPermutation}
+use Rattle.std.proofs.lemmas.List.{map-append, length-replicate, length-set}
+use Rattle.std.proofs.ByRecursion.{All-append, All-push}
+use Rattle.std.proofs.lemmas.Bool.{ltb-false, leb-false, not-false, or_parts, cases_eq, ne_eqb, eq-eqb, cond_both, cond-true, cond-false}
+use Rattle.std.proofs.lemmas.Nat.{pow_below, mod_below}
+use Rattle.wire.specs.declared.message.Message.{Message}
+use Rattle.orders.specs.declared.order.Order.{Order}
+use Rattle.orders.specs.declared.order.Order.TheVariants.{Write, Read, Tell, ReplicaOut, ClientOut}
+use Rattle.orders.specs.declared.answer.Refusal.{Refusal}
+use Rattle.orders.specs.declared.answer.Answer.{Answer}
+use Rattle.orders.specs.declared.answer.Answer.TheVariants.{Accepted, Refused}
+use Rattle.quorum.specs.Replies.{no_receipts, no_readings}
+use Rattle.quorum.specs.Slip.{blank_receipt, blank_reading}
+use Rattle.settings.specs.declared.checked.Checked.{Checked}
+use Rattle.client.specs.declared.client.Phase.{Phase}
+use Rattle.client.specs.declared.client.Phase.TheVariants.{Idle, Writing, Asking, Due, Telling}
+use Rattle.client.specs.declared.client.Client.{Client}
+use Rattle.register.specs.declared.register.Register.{Register}
+use Rattle.register.specs.Register.{client_at, with_client, blank_client}
+use Rattle.settings.specs.Checked.{mark_of}
+use Rattle.client.specs.Start as starting
+use Rattle.register.specs.Calls as calls
+use Rattle.register.specs.Refuse as refuse
+use Rattle.register.specs.Send as sets
+use Rattle.register.specs.Send.{toward, copies}
+use Rattle.register.specs.Refuse.{is_idle, is_due, refusal}
+use Rattle.register.specs.Calls.{accepted, put_out, unless, answer_by}
+use Rattle.client.specs.Start.{outgoing, raised}
+use Rattle.orders.specs.Order.{named}
+use Rattle.register.specs.World.{World, Called, sent_by}
+use Rattle.laws.specs.Entries.{Entry}
+use Rattle.theory.proofs.Members.{Among}
+use Rattle.theory.proofs.Cards.{Card}
+use Rattle.theory.proofs.Model as model
+use Rattle.theory.proofs.Model.{entry, put, Msg, Same, sent}
+use Rattle.theory.proofs.Matching.{params_of, msg_of, Proper, ReceiptsMatch, ReadingsMatch, PhasesMatch, RoundsLeft, ClientMatches, ClientsMatch, OutsMatch, RegisterMatches, Matches}
+use Rattle.theory.proofs.Waiting.{waits_behind}
+use Rattle.theory.proofs.MatchTables.{each_set, each_set_beside, in_left, in_cases, same_self}
+use Rattle.theory.proofs.MatchReached.{Reached, reached_with, refused_reaches}
+
+-- ---- the messages of a set
+
+same_append : (u v w : List Msg) → Same u v → Same (u ++ w) (v ++ w)
+same_append u v w s x = (
+  λ h. elim (in_cases x u w h) [ inl i ↦ in_left x v w ((s x).0 i) | inr i ↦ waits_behind x v w i ],
+  λ h. elim (in_cases x v w h) [ inl i ↦ in_left x u w ((s x).1 i) | inr i ↦ waits_behind x u w i ],
+)
+
+-- a message of a set, as the model has it
+abbrev aimed : model.Kind → ℕ → ℕ → Card → ℕ → Msg
+aimed kd c r d i = record { reply = false; kind = kd; replica = i; client = c; round = r; card = d }
+
+module _ (m : Message) (kd : model.Kind) (c r : ℕ) (d : Card) (is : (i : ℕ) → msg_of (toward m i) ≡ aimed kd c r d i) where
+  more_same : (n : ℕ) (x : Msg) → (Among x (sent kd c r d n) → Among x (map msg_of (copies m n))) × (Among x (map msg_of (copies m n)) → Among x (sent kd c r d n))
+      → (Among x (sent kd c r d (suc n)) → Among x (map msg_of (copies m n) ++ msg_of (toward m n) ∷ [])) × (Among x (map msg_of (copies m n) ++ msg_of (toward m n) ∷ []) → Among x (sent kd c r d (suc n)))
+  more_same n x h = (into, back)
+    where
+      into : Among x (sent kd c r d (suc n)) → Among x (map msg_of (copies m n) ++ msg_of (toward m n) ∷ [])
+      into (inl e) = waits_behind x (map msg_of (copies m n)) (msg_of (toward m n) ∷ []) (inl (e ∙ sym (is n)))
+      into (inr i) = in_left x (map msg_of (copies m n)) (msg_of (toward m n) ∷ []) (h.0 i)
+
+      last : Among x (msg_of (toward m n) ∷ []) → Among x (sent kd c r d (suc n))
+      last (inl e) = inl (e ∙ is n)
+      last (inr i) = elim i [ ]
+
+      back : Among x (map msg_of (copies m n) ++ msg_of (toward m n) ∷ []) → Among x (sent kd c r d (suc n))
+      back i = elim (in_cases x (map msg_of (copies m n)) (msg_of (toward m n) ∷ []) i) [ inl j ↦ inr (h.1 j) | inr j ↦ last j ]
+
+  copies_same : (n : ℕ) → Same (sent kd c r d n) (map msg_of (copies m n))
+  copies_same zero x = (λ h. h, λ h. h)
+  copies_same (suc n) x =
+      let e : map msg_of (copies m n ++ toward m n ∷ []) ≡ map msg_of (copies m n) ++ msg_of (toward m n) ∷ [] = map-append msg_of (copies m n) (toward m n ∷ []) in
+      subst (λ w. (Among x (sent kd c r d (suc n)) → Among x w) × (Among x w → Among x (sent kd c r d (suc n)))) (sym e) (more_same n x (copies_same n x))
+
+  set_same : (n j : ℕ) (vs : List Message) → n ≡ j → Same (sent kd c r d n ++ map msg_of vs) (map msg_of (copies m j ++ vs))
+  set_same n j vs e =
+      subst (λ i. Same (sent kd c r d n ++ map msg_of vs) (map msg_of (copies m i ++ vs))) e
+      (subst (Same (sent kd c r d n ++ map msg_of vs)) (sym (map-append msg_of (copies m n) vs))
+      (same_append (sent kd c r d n) (map msg_of (copies m n)) (map msg_of vs) (copies_same n)))
+
+copies_proper : (k : Checked) (m : Message) (n : ℕ) → n ≤ k.replicas → 1 ≤ m.kind → m.kind ≤ 6 → m.client ≤ k.readers → m.marks < 256 → AllByRecursion (Proper k) (copies m n)
+copies_proper k m zero l a b c d = tt
+copies_proper k m (suc n) l a b c d =
+    All-push (Proper k) (copies m n) (toward m n) (copies_proper k m n (omega arith) a b c d)
+    (record { low = a; high = b; replica = omega arith; client = c; byte = d })
+
+mark_byte : (k : Checked) (c : ℕ) → mark_of k c < 256
+mark_byte k c =
+    cond_both (eqb c 0) 1 (2 ^ (1 + c % k.groups)) (λ m. m < 256) (λ e. lit< tt)
+    (λ e. pow_below (1 + c % k.groups) 8 (omega (arith, mod_below c k.groups k.grouped.0, k.grouped.1)))
+
+-- ---- refusals
+
+pub not_refused : {A : Type 0} (b : Bool) (x : A) (y : Option A) → cond b (Some x) y ≡ None → (b ≡ false) × (y ≡ None)
+not_refused true x y e = grind arith
+not_refused false x y e = (refl, e)
+
+-- what an accepted write, read and tell passed
+pub write_passed : (r : Register) (room : Bool) (z : ℤ) → refuse.write_refusal r room z ≡ None → ((client_at r 0).out ≡ false) × (is_idle (client_at r 0).phase ≡ true) × ((client_at r 0).round < 2000000) × (room ≡ true)
+write_passed r room z e =
+    let e0 = not_refused _ _ _ e in
+    let e1 = not_refused _ _ _ e0.1 in
+    let e2 = not_refused _ _ _ e1.1 in
+    let e3 = not_refused _ _ _ e2.1 in
+    let e4 = not_refused _ _ _ e3.1 in
+    (e0.0, not-false _ e1.0, leb-false _ _ e3.0, not-false _ e4.0)
+
+pub read_passed : (r : Register) (room : Bool) (c : ℕ) → refuse.read_refusal r room c ≡ None → (refuse.no_reader r c ≡ false) × ((client_at r c).out ≡ false) × (is_idle (client_at r c).phase ≡ true) × ((client_at r c).round < 2000000) × (room ≡ true)
+read_passed r room c e =
+    let e0 = not_refused _ _ _ e in
+    let e1 = not_refused _ _ _ e0.1 in
+    let e2 = not_refused _ _ _ e1.1 in
+    let e3 = not_refused _ _ _ e2.1 in
+    let e4 = not_refused _ _ _ e3.1 in
+    (e0.0, e1.0, not-false _ e2.0, leb-false _ _ e3.0, not-false _ e4.0)
+
+pub tell_passed : (r : Register) (room : Bool) (c : ℕ) → refuse.tell_refusal r room c ≡ None → (refuse.no_reader r c ≡ false) × ((client_at r c).out ≡ false) × (is_due (client_at r c).phase ≡ true) × (room ≡ true)
+tell_passed r room c e =
+    let e0 = not_refused _ _ _ e in
+    let e1 = not_refused _ _ _ e0.1 in
+    let e2 = not_refused _ _ _ e1.1 in
+    let e3 = not_refused _ _ _ e2.1 in
+    (e0.0, e1.0, not-false _ e2.0, not-false _ e3.0)
+
+reader_below : (r : Register) (c : ℕ) → refuse.no_reader r c ≡ false → c ≤ r.settings.readers
+reader_below r c e = ltb-false r.settings.readers c (or_parts (eqb c 0) (ltb r.settings.readers c) e).1
+
+idle_matches : (k : Checked) (p : Phase) (q : model.Phase) → is_idle p ≡ true → PhasesMatch k p q → q ≡ model.idle
+idle_matches k Idle q e h = h
+idle_matches k (Writing rs) q e h = grind arith
+idle_matches k (Asking rs) q e h = grind arith
+idle_matches k Due q e h = grind arith
+idle_matches k (Telling rs) q e h = grind arith
+
+due_matches : (k : Checked) (p : Phase) (q : model.Phase) (n : ℕ) → is_due p ≡ true → PhasesMatch k p q → RoundsLeft p n → (q ≡ model.due) × (n ≤ 2000000)
+due_matches k Idle q n e h l = grind arith
+due_matches k (Writing rs) q n e h l = grind arith
+due_matches k (Asking rs) q n e h l = grind arith
+due_matches k Due q n e h l = (h, l)
+due_matches k (Telling rs) q n e h l = grind arith
+
+-- ---- clients that start a round
+
+-- three times the tolerated ones are fewer than the replicas
+pub three_fit : (k : Checked) → 3 * k.tolerated < k.replicas
+three_fit k =
+    let l : 3 ≤ k.groups + 2 = omega (arith, k.grouped.0) in omega (arith, mul-le-mul_right k.tolerated l, k.overlap)
+
+no_receipts_lem : (need : ℕ) → 0 < need → ReceiptsMatch need no_receipts []
+no_receipts_lem need l = record { long = length-replicate 32 blank_receipt; got = refl; short = l; same = refl }
+
+no_readings_lem : (need : ℕ) → 0 < need → ReadingsMatch need no_readings []
+no_readings_lem need l =
+    record { long = length-replicate 32 blank_reading; got = refl; short = l; counted = record { same = refl; once = tt; bytes = tt } }
+
+raised_is : (m n : ℕ) → m ≡ n → m ≤ 2000001 → raised m ≡ suc n
+raised_is m n e l = omega arith
+
+pub clients_set : (k : Checked) (xs : List Client) (f : ℕ → model.Client) (g : ℕ → Bool) (c : ℕ) (x : Client) (y : model.Client) → c < 65 → ClientsMatch k xs f g → x.out ≡ g c → ClientMatches k x y → ClientsMatch k (set xs c x) (put f c y) g
+clients_set k xs f g c x y l h o m =
+    let i : c < length xs = omega (arith, h.long) in
+    record {
+      long = length-set xs c x ∙ h.long;
+      out = each_set_beside (λ z b. z.out ≡ b) 65 xs c x blank_client g i o h.out;
+      each = each_set (ClientMatches k) 65 xs c x blank_client f y i m h.each;
+    }
+
+pub register_client : (k : Checked) (r : Register) (b : model.State) (c : ℕ) (x : Client) (y : model.Client) (ms : List Msg) → c < 65 → RegisterMatches k r b → x.out ≡ (client_at r c).out → ClientMatches k x y → RegisterMatches k (with_client r c x) (model.sets b c y ms)
+register_client k r b c x y ms l h o m =
+    record {
+      settings = h.settings;
+      rows = h.rows;
+      outs = h.outs;
+      clients = clients_set k r.clients b.clients b.client_out c x y l h.clients (o ∙ h.clients.out c l) m;
+    }
+
+-- ---- each call, accepted
+
+module _ (k : Checked) (log : List Entry) (v w : World) (b : model.State) (t : model.Trace (params_of k) k.initial log b) (h : Matches k v b) (ms : List Message) where
+  abbrev r : Register
+  r = v.register
+
+  -- a state of the model with a client that put out a set of messages
+  started_reaches : (o : Order) (c : ℕ) (x : Client) (y : model.Client) (m : Message) (kd : model.Kind) (n j : ℕ) (d : Card)
+      → model.Trace (params_of k) k.initial (entry o (Accepted c) ms ∷ log) (model.sets b c y (sent kd c y.round d n ++ b.waiting))
+      → c ≤ k.readers → x.out ≡ (client_at r c).out → ClientMatches k x y
+      → ((i : ℕ) → msg_of (toward m i) ≡ aimed kd c y.round d i) → 1 ≤ m.kind → m.kind ≤ 6 → m.client ≡ c → m.marks < 256 → n ≡ j → n ≤ k.replicas
+      → w.register ≡ with_client r c x → IsPermutation w.waiting (copies m j ++ v.waiting)
+      → Reached k (entry o (Accepted c) ms ∷ log) w
+  started_reaches o c x y m kd n j d step few same fits is low high who byte e all reg s =
+      reached_with k (entry o (Accepted c) ms ∷ log) w (with_client r c x) (copies m j ++ v.waiting) _ step reg
+      (register_client k r b c x y (sent kd c y.round d n ++ b.waiting) (omega (arith, k.read.1)) h.register same fits) s
+      (subst (λ q. Same (sent kd c y.round d n ++ q) (map msg_of (copies m j ++ v.waiting))) h.waiting (set_same m kd c y.round d is n j v.waiting e))
+      (All-append (Proper k) (copies m j) v.waiting (copies_proper k m j (omega arith) low high (omega arith) byte) h.proper)
+
+  pub wrote_reaches : (z : ℤ) → refusal r v.free (Write z) ≡ None → w.register ≡ accepted r (Write z) → IsPermutation w.waiting (put_out r (Write z) ++ v.waiting) → Reached k (entry (Write z) (Accepted 0) ms ∷ log) w
+  wrote_reaches z e reg s =
+      let p = write_passed r (leb (sets.all_of r) v.free) z e in
+      let x : Client = client_at r 0 in
+      let y : model.Client = b.clients 0 in
+      let q : ClientMatches k x y = h.register.clients.each 0 (lit< tt) in
+      let few : x.round < 2000000 = p.2 in
+      let up : raised x.round ≡ suc y.round = raised_is x.round y.round q.round (omega arith) in
+      let gone : b.client_out 0 ≡ false = sym (h.register.clients.out 0 (lit< tt)) ∙ p.0 in
+      let idle : y.phase ≡ model.idle = idle_matches k x.phase y.phase p.1 q.phase in
+      let all : r.settings.replicas ≡ k.replicas = ap (λ a. a.replicas) h.register.settings in
+      let value : x.value ≡ y.value = q.value in
+      let same : r.settings ≡ k = h.register.settings in
+      started_reaches (Write z) 0 (starting.writing x z) (model.writing y z) (outgoing r.settings 1 0 (starting.writing x z)) model.writes k.replicas r.settings.replicas
+      (model.carried (params_of k) 0 (model.writing y z)) (model.wrote z ms gone idle t) (omega arith) refl
+      (record { round = up; version = up; value = refl; previous = value; phase = ([], refl, no_receipts_lem (k.replicas - k.tolerated) (omega (arith, three_fit k))); left = omega arith })
+      (λ i. cc) (lit≤ tt) (lit≤ tt) refl (mark_byte r.settings 0) (sym all) (omega arith) reg s
+
+  pub asked_reaches : (c : ℕ) → refusal r v.free (Read c) ≡ None → w.register ≡ accepted r (Read c) → IsPermutation w.waiting (put_out r (Read c) ++ v.waiting) → Reached k (entry (Read c) (Accepted c) ms ∷ log) w
+  asked_reaches zero e reg s = grind arith
+  asked_reaches (suc c) e reg s =
+      let p = read_passed r (leb (sets.all_of r) v.free) (suc c) e in
+      let same : r.settings ≡ k = h.register.settings in
+      let readers : r.settings.readers ≡ k.readers = ap (λ a. a.readers) same in
+      let reader : suc c ≤ r.settings.readers = reader_below r (suc c) p.0 in
+      let low : suc c < 65 = omega (arith, k.read.1) in
+      let x : Client = client_at r (suc c) in
+      let y : model.Client = b.clients (suc c) in
+      let q : ClientMatches k x y = h.register.clients.each (suc c) low in
+      let few : x.round < 2000000 = p.3 in
+      let up : raised x.round ≡ suc y.round = raised_is x.round y.round q.round (omega arith) in
+      let gone : b.client_out (suc c) ≡ false = sym (h.register.clients.out (suc c) low) ∙ p.1 in
+      let idle : y.phase ≡ model.idle = idle_matches k x.phase y.phase p.2 q.phase in
+      let all : r.settings.replicas ≡ k.replicas = ap (λ a. a.replicas) same in
+      let version : x.version ≡ y.version = q.version in
+      let value : x.value ≡ y.value = q.value in
+      let previous : x.previous ≡ y.previous = q.previous in
+      started_reaches (Read (suc c)) (suc c) (starting.asking x) (model.asking y model.reads) (outgoing r.settings 2 (suc c) (starting.asking x)) model.reads k.replicas r.settings.replicas
+      (model.carried (params_of k) (suc c) y) (model.asked c ms (omega arith) gone idle t) (omega arith) refl
+      (record { round = up; version = version; value = value; previous = previous; phase = ([], refl, no_readings_lem (k.replicas - k.tolerated) (omega (arith, three_fit k))); left = omega arith })
+      (λ i. cc) (lit≤ tt) (lit≤ tt) refl (mark_byte r.settings (suc c)) (sym all) (omega arith) reg s
+
+  pub told_reaches : (c : ℕ) → refusal r v.free (Tell c) ≡ None → w.register ≡ accepted r (Tell c) → IsPermutation w.waiting (put_out r (Tell c) ++ v.waiting) → Reached k (entry (Tell c) (Accepted c) ms ∷ log) w
+  told_reaches zero e reg s = grind arith
+  told_reaches (suc c) e reg s =
+      let p = tell_passed r (leb (sets.told_of r) v.free) (suc c) e in
+      let same : r.settings ≡ k = h.register.settings in
+      let readers : r.settings.readers ≡ k.readers = ap (λ a. a.readers) same in
+      let reader : suc c ≤ r.settings.readers = reader_below r (suc c) p.0 in
+      let low : suc c < 65 = omega (arith, k.read.1) in
+      let x : Client = client_at r (suc c) in
+      let y : model.Client = b.clients (suc c) in
+      let q : ClientMatches k x y = h.register.clients.each (suc c) low in
+      let due = due_matches k x.phase y.phase x.round p.2 q.phase q.left in
+      let up : raised x.round ≡ suc y.round = raised_is x.round y.round q.round (omega (arith, due.1)) in
+      let gone : b.client_out (suc c) ≡ false = sym (h.register.clients.out (suc c) low) ∙ p.1 in
+      let all : 3 * r.settings.tolerated + 1 ≡ 3 * k.tolerated + 1 = ap (λ a. 3 * a.tolerated + 1) same in
+      let version : x.version ≡ y.version = q.version in
+      let value : x.value ≡ y.value = q.value in
+      let previous : x.previous ≡ y.previous = q.previous in
+      started_reaches (Tell (suc c)) (suc c) (starting.telling x) (model.asking y model.tells) (outgoing r.settings 3 (suc c) (starting.telling x)) model.tells (3 * k.tolerated + 1) (3 * r.settings.tolerated + 1)
+      (model.carried (params_of k) (suc c) y) (model.told c ms (omega arith) gone due.0 t) (omega arith) refl
+      (record { round = up; version = version; value = value; previous = previous; phase = ([], refl, no_receipts_lem (2 * k.tolerated + 1) (omega arith)); left = omega (arith, due.1) })
+      (λ i. cc) (lit≤ tt) (lit≤ tt) refl (mark_byte r.settings (suc c)) (sym all) (omega (arith, three_fit k)) reg s
+
+-- ---- withdrawals
+
+count_below : (p : ℕ → Bool) (i n : ℕ) → n ≤ i → model.out_count (put p i true) n ≡ model.out_count p n
+count_below p i zero l = refl
+count_below p i (suc n) l =
+    let e : eqb n i ≡ false = ne_eqb n i (λ q. omega arith) in
+    let s : put p i true n ≡ p n = cond-false (eqb n i) true (p n) e in
+    let ih : model.out_count (put p i true) n ≡ model.out_count p n = count_below p i n (omega arith) in
+    let c : cond {A = ℕ} (put p i true n) 1 0 ≡ cond (p n) 1 0 = ap (λ q. cond {A = ℕ} q 1 0) s in
+    omega arith
+
+count_put : (p : ℕ → Bool) (i n : ℕ) → i < n → p i ≡ false → model.out_count (put p i true) n ≡ model.out_count p n + 1
+count_put p i zero l f = absurd (omega arith)
+count_put p i (suc n) l f =
+    elim (cases_eq n i) [
+      | inl q ↦
+          let s : put p i true n ≡ true = cond-true (eqb n i) true (p n) (eq-eqb n i q) in
+          let c : cond {A = ℕ} (put p i true n) 1 0 ≡ 1 = ap (λ a. cond {A = ℕ} a 1 0) s in
+          let d : cond {A = ℕ} (p n) 1 0 ≡ 0 = ap (λ a. cond {A = ℕ} a 1 0) (ap p q ∙ f) in
+          let g : model.out_count (put p i true) n ≡ model.out_count p n = count_below p i n (omega arith) in
+          omega arith
+      | inr q ↦
+          let s : put p i true n ≡ p n = cond-false (eqb n i) true (p n) (ne_eqb n i q) in
+          let c : cond {A = ℕ} (put p i true n) 1 0 ≡ cond (p n) 1 0 = ap (λ a. cond {A = ℕ} a 1 0) s in
+          let g : model.out_count (put p i true) n ≡ model.out_count p n + 1 = count_put p i n (omega (arith, q)) f in
+          omega arith
+    ]
+
+replica_passed : (r : Register) (i : ℕ) → refuse.replica_out_refusal r i ≡ None → (i < r.settings.replicas) × (get_or r.out i false ≡ false) × (r.outs < r.settings.tolerated)
+replica_passed r i e =
+    let e0 = not_refused _ _ _ e in
+    let e1 = not_refused _ _ _ e0.1 in
+    let e2 = not_refused _ _ _ e1.1 in
+    (leb-false _ _ e0.0, e1.0, leb-false _ _ e2.0)
+
+client_passed : (r : Register) (c : ℕ) → refuse.client_out_refusal r c ≡ None → c ≤ r.settings.readers
+client_passed r c e = ltb-false _ _ (not_refused _ _ _ e).0
+
+module _ (k : Checked) (log : List Entry) (v w : World) (b : model.State) (t : model.Trace (params_of k) k.initial log b) (h : Matches k v b) (ms : List Message) where
+  abbrev q : Register
+  q = v.register
+
+  pub replica_gone_reaches : (i : ℕ) → refusal q v.free (ReplicaOut i) ≡ None → w.register ≡ accepted q (ReplicaOut i) → IsPermutation w.waiting v.waiting → Reached k (entry (ReplicaOut i) (Accepted i) ms ∷ log) w
+  replica_gone_reaches i e reg s =
+      let p = replica_passed q i e in
+      let same : q.settings ≡ k = h.register.settings in
+      let replicas : q.settings.replicas ≡ k.replicas = ap (λ a. a.replicas) same in
+      let tolerated : q.settings.tolerated ≡ k.tolerated = ap (λ a. a.tolerated) same in
+      let below : i < k.replicas = omega (arith, p.0) in
+      let few : i < 32 = omega (arith, k.replicated.1) in
+      let o : OutsMatch k.replicas q.outs q.out b.replica_out = h.register.outs in
+      let present : b.replica_out i ≡ false = sym (o.each i few) ∙ p.1 in
+      let count : q.outs ≡ model.out_count b.replica_out k.replicas = o.count in
+      let less : model.out_count b.replica_out k.replicas < k.tolerated = omega (arith, p.2) in
+      reached_with k (entry (ReplicaOut i) (Accepted i) ms ∷ log) w (calls.replica_gone q i) v.waiting _ (model.replica_gone i ms below present less t) reg
+      (record {
+        settings = same;
+        rows = h.register.rows;
+        outs =
+            record {
+              long = length-set q.out i true ∙ o.long;
+              each = each_set (λ x y. x ≡ y) 32 q.out i true false b.replica_out true (omega (arith, o.long)) refl o.each;
+              count = omega (arith, count_put b.replica_out i k.replicas below present);
+            };
+        clients = h.register.clients;
+      }) s (subst (λ y. Same y (map msg_of v.waiting)) h.waiting (same_self (map msg_of v.waiting))) h.proper
+
+  pub client_gone_reaches : (c : ℕ) → refusal q v.free (ClientOut c) ≡ None → w.register ≡ accepted q (ClientOut c) → IsPermutation w.waiting v.waiting → Reached k (entry (ClientOut c) (Accepted c) ms ∷ log) w
+  client_gone_reaches c e reg s =
+      let same : q.settings ≡ k = h.register.settings in
+      let readers : q.settings.readers ≡ k.readers = ap (λ a. a.readers) same in
+      let below : c < 65 = omega (arith, client_passed q c e, k.read.1) in
+      let cs : ClientsMatch k q.clients b.clients b.client_out = h.register.clients in
+      let x : ClientMatches k (client_at q c) (b.clients c) = cs.each c below in
+      let i : c < length q.clients = omega (arith, cs.long) in
+      reached_with k (entry (ClientOut c) (Accepted c) ms ∷ log) w (calls.client_gone q c) v.waiting _ (model.client_gone c ms t) reg
+      (record {
+        settings = same;
+        rows = h.register.rows;
+        outs = h.register.outs;
+        clients =
+            record {
+              long = length-set q.clients c (calls.gone (client_at q c)) ∙ cs.long;
+              out = each_set (λ z y. z.out ≡ y) 65 q.clients c (calls.gone (client_at q c)) blank_client b.client_out true i refl cs.out;
+              each = each_set_beside (ClientMatches k) 65 q.clients c (calls.gone (client_at q c)) blank_client b.clients i
+                  (record { round = x.round; version = x.version; value = x.value; previous = x.previous; phase = x.phase; left = x.left }) cs.each;
+            };
+      }) s (subst (λ y. Same y (map msg_of v.waiting)) h.waiting (same_self (map msg_of v.waiting))) h.proper
+
+-- ---- a call, accepted or sent back
+
+-- an accepted call reaches its world if the call's own lemma says so
+called_by : (k : Checked) (log : List Entry) (v w : World) (b : model.State) (o : Order) (a : Answer) (ms : List Message) (x : Option Refusal) → refusal v.register v.free o ≡ x
+    → model.Trace (params_of k) k.initial log b → Matches k v b → Called v o a w
+    → (refusal v.register v.free o ≡ None → w.register ≡ accepted v.register o → IsPermutation w.waiting (put_out v.register o ++ v.waiting) → Reached k (entry o (Accepted (named o)) ms ∷ log) w)
+    → Reached k (entry o a ms ∷ log) w
+called_by k log v w b o a ms (Some x) e t h c f =
+    let answer : a ≡ Refused x (named o) = c.answer ∙ ap (λ y. answer_by y (named o)) e in
+    let register : w.register ≡ v.register = c.register ∙ ap (λ y. unless y (accepted v.register o) v.register) e in
+    let none : sent_by v o ≡ [] = ap (λ y. unless y (put_out v.register o) []) e in
+    let s : IsPermutation w.waiting v.waiting = subst (λ y. IsPermutation w.waiting (y ++ v.waiting)) none c.sends.0 in
+    subst (λ y. Reached k (entry o y ms ∷ log) w) (sym answer) (refused_reaches k log v w b o x (named o) ms t h register s)
+called_by k log v w b o a ms None e t h c f =
+    let answer : a ≡ Accepted (named o) = c.answer ∙ ap (λ y. answer_by y (named o)) e in
+    let register : w.register ≡ accepted v.register o = c.register ∙ ap (λ y. unless y (accepted v.register o) v.register) e in
+    let set : sent_by v o ≡ put_out v.register o = ap (λ y. unless y (put_out v.register o) []) e in
+    let s : IsPermutation w.waiting (put_out v.register o ++ v.waiting) = subst (λ y. IsPermutation w.waiting (y ++ v.waiting)) set c.sends.0 in
+    subst (λ y. Reached k (entry o y ms ∷ log) w) (sym answer) (f e register s)
+
+pub called_reaches : (k : Checked) (log : List Entry) (v w : World) (b : model.State) (o : Order) (a : Answer) (ms : List Message)
+    → model.Trace (params_of k) k.initial log b → Matches k v b → Called v o a w
+    → (refusal v.register v.free o ≡ None → w.register ≡ accepted v.register o → IsPermutation w.waiting (put_out v.register o ++ v.waiting) → Reached k (entry o (Accepted (named o)) ms ∷ log) w)
+    → Reached k (entry o a ms ∷ log) w
+called_reaches k log v w b o a ms t h c f = called_by k log v w b o a ms (refusal v.register v.free o) refl t h c f
