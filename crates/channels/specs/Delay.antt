@@ -24,15 +24,21 @@ pub data Handed (replica : ℕ) : List Message → List Message → List Message
   delayed : (below below₁ pocket pocket₁ below' pocket' : List Message) (m : Message) (r : Option Message) → IsPermutation below (m ∷ below₁) → is_later replica (length pocket) m ≡ true → pocket₁ ≡ pocket ++ m ∷ [] → Handed replica below₁ pocket₁ below' pocket' r → Handed replica below pocket below' pocket' r
   last : (below below' pocket pocket' : List Message) (r : Option Message) → below ≡ [] → below' ≡ [] → Oldest pocket pocket' r → Handed replica below pocket below' pocket' r
 
+-- a layer over this channel, which keeps back what goes to the replica, and has kept nothing back yet
+abbrev pub Delays : {C : Type 0} → C → ℕ → Delay C → Type 0
+Delays below replica d = (d.below ≡ below) × (d.replica ≡ replica) × (d.pocket.items ≡ [])
+
 module _ {C : Type 0} (below : C → Contents) where
   -- what a layer means: what is below, and its pocket of 64
   abbrev pub layered : Delay C → Contents
   layered d = holding ((below d.below).waiting ++ d.pocket.items) ((below d.below).free + (64 - length d.pocket.items))
 
-  -- where a message goes in
-  abbrev pub Enters : {U F : Type 0} → Delay C → Message → Delay C → Result U F → Type 0
-  Enters d m d' r = Entered (below d.below).free (below d.below).waiting d.pocket.items m (below d'.below).waiting d'.pocket.items r
+  -- where a message goes in, the same replica being delayed
+  pub record Enters {U F : Type 0} (d : Delay C) (m : Message) (d' : Delay C) (r : Result U F) : Type 0 where
+    pub entered : Entered (below d.below).free (below d.below).waiting d.pocket.items m (below d'.below).waiting d'.pocket.items r
+    pub replica : d'.replica ≡ d.replica
 
-  -- what is given
-  abbrev pub Gives : Delay C → Delay C → Option Message → Type 0
-  Gives d d' r = Handed d.replica (below d.below).waiting d.pocket.items (below d'.below).waiting d'.pocket.items r
+  -- what is given, the same replica being delayed
+  pub record Gives (d : Delay C) (d' : Delay C) (r : Option Message) : Type 0 where
+    pub handed : Handed d.replica (below d.below).waiting d.pocket.items (below d'.below).waiting d'.pocket.items r
+    pub replica : d'.replica ≡ d.replica

@@ -1,5 +1,6 @@
 -- A queue as the list of the messages that wait in it.
 use Rattle.std.specs.Prelude.{◌≡◌, List, [], ◌∷◌, Some, None, Option, ◌-◌, length}
+use Rattle.std.specs.Borrow.{MutBor}
 use Rattle.wire.specs.declared.message.Message.{Message}
 use Rattle.channels.specs.declared.queue.Queue.{Queue}
 use Rattle.wire.specs.Channel.{Contents, holding}
@@ -17,3 +18,11 @@ queued q = ring q.cells.now q.start q.len
 -- with the cells that are free
 abbrev pub contents_of : Queue → Contents
 contents_of q = holding (queued q) (length q.cells.now - q.len)
+
+-- the queue lies in the cells lent, and has touched none
+abbrev pub LiesIn : MutBor (List Message) → Queue → Type 0
+LiesIn cells q = (q.cells.now ≡ cells.now) × (q.cells.ghost_name ≡ cells.ghost_name)
+
+-- the message that was put in first is given
+abbrev pub GivesOldest : Queue → Queue → Option Message → Type 0
+GivesOldest before after m = Oldest (queued before) (queued after) m

@@ -17,13 +17,11 @@ pub struct Delay<C> {
 }
 
 impl<C> Delay<C> {
-    ghost use Rattle.channels.specs.Delay.{is_later};
+    ghost use Rattle.channels.specs.Delay.{is_later, Delays};
 
     /// The pocket is empty.
     pub fn new(below: C, replica: u8) -> Self
-        ensures below { result.below ≡ below }
-        ensures replica { result.replica ≡ replica }
-        ensures empty { result.pocket.items ≡ [] }
+        ensures { Delays below replica result }
     {
         Delay {
             below,
@@ -50,8 +48,7 @@ impl<C: Channel> Channel for Delay<C> {
     /// Below if a place is free there, else into the pocket.
     fn put(&mut self, m: Message) -> Result<(), Full>
         ensures meets { Put (layered C.Channel.contents self.old) m (layered C.Channel.contents self.new) result }
-        ensures entered { Enters C.Channel.contents self.old m self.new result }
-        ensures replica { self.new.replica ≡ self.old.replica }
+        ensures enters { Enters C.Channel.contents self.old m self.new result }
     {
         match self.below.put(m) {
             Ok(()) => Ok(()),
@@ -62,8 +59,7 @@ impl<C: Channel> Channel for Delay<C> {
     /// From below, what is to be kept back going into the pocket; with nothing below, the pocket's oldest.
     fn take(&mut self) -> Option<Message>
         ensures meets { Taken (layered C.Channel.contents self.old) (layered C.Channel.contents self.new) result }
-        ensures handed { Gives C.Channel.contents self.old self.new result }
-        ensures replica { self.new.replica ≡ self.old.replica }
+        ensures gives { Gives C.Channel.contents self.old self.new result }
     {
         while let Some(m) = self.below.take() {
             if !self.is_later(&m) {

@@ -6,8 +6,7 @@ use wire::channel::{Channel, Full};
 use wire::message::Message;
 
 /// The messages lie in `len` cells from `start` on, going round at the end; a `start` at the end means the first cell.
-// Stays: a ring by hand, since its cells are lent and fixed, and none of the kit's queues lies in lent memory.
-// Stays: ghost fields, and the ring spelled out in the clauses: tried as an `impl Model`, whose view hides these two bounds from callers.
+// A ring by hand, since none of the kit's queues lies in lent memory.
 #[derive(Drop)]
 pub struct Queue<'a> {
     cells: &'a mut [Message],
@@ -18,14 +17,13 @@ pub struct Queue<'a> {
 }
 
 impl<'a> Queue<'a> {
-    ghost use Rattle.channels.specs.Queue.{queued, contents_of};
+    ghost use Rattle.wire.specs.Channel.{empty};
+    ghost use Rattle.channels.specs.Queue.{contents_of, LiesIn};
 
     /// Nothing waits, and every cell is a free place; what the cells held is of no account.
     pub fn new(cells: &'a mut [Message]) -> Self
-        ensures empty { queued result ≡ [] }
-        ensures room { (contents_of result).free ≡ length cells.old }
-        ensures cells { result.cells.now ≡ cells.old }
-        ensures lender { result.cells.ghost_name ≡ cells.entry.ghost_name }
+        ensures empty { contents_of result ≡ empty (length cells.old) }
+        ensures lies { LiesIn cells.entry result }
     {
         Queue {
             cells,
@@ -58,8 +56,7 @@ fn first_of(start: usize, cap: usize) -> usize
 
 impl Channel for Queue<'_> {
     ghost use Rattle.wire.specs.Channel.{Taken};
-    ghost use Rattle.channels.specs.Queue.{Oldest};
-    ghost use Rattle.channels.specs.Queue.{queued, contents_of};
+    ghost use Rattle.channels.specs.Queue.{contents_of, GivesOldest};
 
     ghost contents = { contents_of };
 
@@ -76,7 +73,7 @@ impl Channel for Queue<'_> {
     /// It gives the oldest.
     fn take(&mut self) -> Option<Message>
         ensures meets { Taken (contents_of self.old) (contents_of self.new) result }
-        ensures oldest { Oldest (queued self.old) (queued self.new) result }
+        ensures oldest { GivesOldest self.old self.new result }
     {
         if self.len == 0 {
             return None;

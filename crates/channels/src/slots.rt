@@ -66,10 +66,12 @@ fn lowest(table: &[Option<Message>]) -> Option<(usize, Message)>
 }
 
 impl Slots {
+    ghost use Rattle.wire.specs.Channel.{empty};
+    ghost use Rattle.channels.specs.Slots.{contents_of};
+
     /// Nothing waits, and 256 places are free.
     pub fn new() -> Self
-        ensures empty { somes result.table ≡ [] }
-        ensures room { gaps result.table ≡ 256 }
+        ensures { contents_of result ≡ empty 256 }
     {
         Slots { table: [None; 256] }
     }
@@ -77,7 +79,7 @@ impl Slots {
 
 impl Channel for Slots {
     ghost use Rattle.wire.specs.Channel.{Taken};
-    ghost use Rattle.channels.specs.Slots.{contents_of};
+    ghost use Rattle.channels.specs.Slots.{contents_of, GivesLowest};
 
     ghost contents = { contents_of };
 
@@ -92,7 +94,7 @@ impl Channel for Slots {
     #[tactic(auto, using(crate::proofs::Slotted::none_held, crate::proofs::Slotted::freed_holds, crate::proofs::Slotted::freed_leaves))]
     fn take(&mut self) -> Option<Message>
         ensures meets { Taken (contents_of self.old) (contents_of self.new) result }
-        ensures lowest { Lowest self.old.table result }
+        ensures lowest { GivesLowest self.old result }
     {
         let (i, m) = lowest(&self.table)?;
         self.table[i] = None;

@@ -7,9 +7,11 @@ use Rattle.channels.proofs.delay.DelayChannel.take.Goals as goal
 pub returns-then-not-is_later-clause-meets : goal.returns-then-not-is_later-clause-meets
 returns-then-not-is_later-clause-meets g c = (IsPermutation-trans _ _ _ c.loop-m.invariant.0 (IsPermutation-append_left _ _ _ c.in-Some.ensures.0), omega (arith, c.in-Some.ensures.1))
 
-pub returns-then-not-is_later-clause-handed : goal.returns-then-not-is_later-clause-handed
-returns-then-not-is_later-clause-handed g c =
-    c.loop-m.invariant.2 _ _ _ (given _ _ _ _ c.in-Some.ensures.0 (sym c.is_later.ensures ∙ c.if-not-is_later.true))
+pub returns-then-not-is_later-clause-gives : goal.returns-then-not-is_later-clause-gives
+returns-then-not-is_later-clause-gives g c = record {
+  handed = c.loop-m.invariant.2 _ _ _ (given _ _ _ _ c.in-Some.ensures.0 (sym c.is_later.ensures ∙ c.if-not-is_later.true));
+  replica = c.loop-m.invariant.3;
+}
 
 pub loop-m-preserved : goal.loop-m-preserved
 loop-m-preserved g c =
@@ -28,6 +30,5 @@ returns g c =
     let o = first_taken c.loop-m.self.pocket.items c.pop_at.new.self.items c.pop_at.result p.value p.items in
     record {
       meets = take_beside _ _ _ c.loop-m.self.pocket c.pop_at.new.self _ _ _ c.pop_at.result c.loop-m.invariant.0 c.loop-m.invariant.1 c.in_default.ensures c.loop-m.self.few o p.absent;
-      handed = c.loop-m.invariant.2 _ _ _ (last _ _ _ _ _ c.in_default.ensures.0 c.in_default.ensures.1 o);
-      replica = c.loop-m.invariant.3;
+      gives = record { handed = c.loop-m.invariant.2 _ _ _ (last _ _ _ _ _ c.in_default.ensures.0 c.in_default.ensures.1 o); replica = c.loop-m.invariant.3 };
     }
