@@ -73,7 +73,7 @@ phase_by Previous = Idle
 abbrev pub completed_in : Checked → Client → Phase → Client
 completed_in k c Idle = c
 completed_in k c (Writing rs) = in_phase c Idle
-completed_in k c (Asking rs) = let d = decided k.replicas k.tolerated k.groups (take rs.got rs.slips) in knowing c d (phase_by d.verdict)
+completed_in k c (Asking rs) = let d = decided k (take rs.got rs.slips) in knowing c d (phase_by d.verdict)
 completed_in k c Due = c
 completed_in k c (Telling rs) = in_phase c Idle
 
@@ -94,7 +94,7 @@ shown_by Previous who d = ended_as who (d.version - 1) d.previous 1
 abbrev pub completion_in : Checked → ℕ → Client → Phase → Answer
 completion_in k who c Idle = Ignored who
 completion_in k who c (Writing rs) = ended_as who c.version c.value 1
-completion_in k who c (Asking rs) = let d = decided k.replicas k.tolerated k.groups (take rs.got rs.slips) in shown_by d.verdict who d
+completion_in k who c (Asking rs) = let d = decided k (take rs.got rs.slips) in shown_by d.verdict who d
 completion_in k who c Due = Ignored who
 completion_in k who c (Telling rs) = ended_as who c.version c.value 2
 

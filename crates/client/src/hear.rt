@@ -6,8 +6,7 @@ ghost use Rattle.client.specs.Client.{in_phase};
 
 use crate::client::{Client, Phase};
 use orders::answer::{Answer, Ending};
-use quorum::decide::{Decided, Verdict};
-use quorum::rule::Rule;
+use quorum::decide::{Decided, Verdict, decide};
 use settings::checked::Checked;
 use wire::kind::Kind;
 use wire::message::Message;
@@ -96,13 +95,7 @@ impl Client {
     {
         match &self.phase {
             Phase::Asking(readings) => {
-                // Stays: no From of Checked: a rule is made here alone, and the impl would be longer than the literal.
-                let rule = Rule {
-                    replicas: k.replicas,
-                    tolerated: k.tolerated,
-                    groups: k.groups,
-                };
-                let d = rule.decide(readings.held());
+                let d = decide(k, readings.held());
                 self.conclude(who, d)
             }
             Phase::Writing(_) => self.rest(who, 1),

@@ -2,9 +2,10 @@
 ghost use Rattle.std.specs.Prelude.{◌≡◌};
 ghost use Rattle.quorum.specs.Decide.{verdict_at, decided_at, decided};
 
+use crate::agree::some_set_agrees;
 use crate::highest::{highest, lowest_at, notes_at};
-use crate::rule::Rule;
 use crate::slip::Reading;
+use settings::checked::Checked;
 
 /// How a first round ends.
 #[derive(Debug, Clone, Copy, PartialEq, Eq)]
@@ -29,42 +30,40 @@ pub struct Decided {
     pub verdict: Verdict,
 }
 
-impl Rule {
-    // The first rule that fits at version h.
-    fn verdict_at(self, slips: &[Reading], h: u32) -> Verdict
-        ensures { result ≡ verdict_at self.replicas self.tolerated self.groups h slips.now }
-    {
-        if h == 0 {
-            return Verdict::Highest;
-        }
-        let notes = notes_at(slips, h);
-        if notes > usize::from(self.tolerated) || self.some_set_agrees(slips, h, 1) {
-            return Verdict::Highest;
-        }
-        if notes >= 1 || self.some_set_agrees(slips, h, 0) {
-            return Verdict::Due;
-        }
-        Verdict::Previous
+// The first rule that fits at version h.
+fn verdict_at(k: &Checked, slips: &[Reading], h: u32) -> Verdict
+    ensures { result ≡ verdict_at k.now h slips.now }
+{
+    if h == 0 {
+        return Verdict::Highest;
     }
+    let notes = notes_at(slips, h);
+    if notes > usize::from(k.tolerated) || some_set_agrees(k, slips, h, 1) {
+        return Verdict::Highest;
+    }
+    if notes >= 1 || some_set_agrees(k, slips, h, 0) {
+        return Verdict::Due;
+    }
+    Verdict::Previous
+}
 
-    // What the replies decide at version h.
-    fn decide_at(self, slips: &[Reading], h: u32) -> Decided
-        ensures { result ≡ decided_at self.replicas self.tolerated self.groups h slips.now }
-    {
-        let shown = lowest_at(slips, h).unwrap_or_default();
-        let verdict = self.verdict_at(slips, h);
-        Decided {
-            version: h,
-            value: shown.value,
-            previous: shown.previous,
-            verdict,
-        }
+// What the replies decide at version h.
+fn decide_at(k: &Checked, slips: &[Reading], h: u32) -> Decided
+    ensures { result ≡ decided_at k.now h slips.now }
+{
+    let shown = lowest_at(slips, h).unwrap_or_default();
+    let verdict = verdict_at(k, slips, h);
+    Decided {
+        version: h,
+        value: shown.value,
+        previous: shown.previous,
+        verdict,
     }
+}
 
-    /// What the replies of a first round decide.
-    pub fn decide(self, slips: &[Reading]) -> Decided
-        ensures { result ≡ decided self.replicas self.tolerated self.groups slips.now }
-    {
-        self.decide_at(slips, highest(slips))
-    }
+/// What the replies of a first round decide.
+pub fn decide(k: &Checked, slips: &[Reading]) -> Decided
+    ensures { result ≡ decided k.now slips.now }
+{
+    decide_at(k, slips, highest(slips))
 }

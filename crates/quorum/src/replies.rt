@@ -1,14 +1,23 @@
 //! The slips that a client has counted in a round, in fixed memory.
-ghost use Rattle.std.specs.Prelude.{◌≡◌, take};
+ghost use Rattle.std.specs.Prelude.{◌≡◌, take, if◌then◌else◌, slice_set};
 ghost use Rattle.quorum.specs.Tally.{adds};
 ghost use Rattle.quorum.specs.Replies.{NoneCounted, with_slip};
 
 use crate::slip::{Reading, Receipt, Slip};
-use crate::tally::add_to;
+use crate::tally::Tally;
+
+// Adds the slip behind the first len places, unless its replica is counted already or no place is left.
+// A function of its own: a tally that a generic struct lends a field to leaves the checker no tie to it.
+#[tactic(auto, using(crate::proofs::From::adds_lowered))]
+fn add_to<T: Slip + Drop>(places: &mut [T], len: usize, slip: T) -> bool
+    ensures said { result ≡ adds T.sent_by places.old len slip }
+    ensures after { places.new ≡ (if result then slice_set places.old len slip else places.old) }
+{
+    Tally::over(places, len).add(slip)
+}
 
 /// The slips of one round: the first got of 32 places; the others are free.
-// Stays: an array with a count beside it: an `ArrayVec` is not `Copy`, as this and every client that holds it are, and the tally that the
-// product's rules name goes over lent places. Both fields are public, so no ghost field ties them.
+// An array with a count beside it, since an `ArrayVec` is not `Copy`, as every client that holds this is.
 #[derive(Debug, Clone, Copy)]
 pub struct Replies<T> {
     /// how many are counted

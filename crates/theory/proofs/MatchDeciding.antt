@@ -17,7 +17,7 @@ VerdictFits g ss Due = Decision g ss (highest ss) true
 VerdictFits g ss Previous = (0 < highest ss) × Decision g ss (highest ss - 1) false
 
 abbrev pub judgement : Checked → List Reading → Decided
-judgement k xs = decided k.replicas k.tolerated k.groups xs
+judgement k xs = decided k xs
 
 -- what the readings decide, as the model has it from the slips
 pub record Judged (k : Checked) (xs : List Reading) (ss : List Slip) : Type 0 where

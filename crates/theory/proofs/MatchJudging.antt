@@ -174,7 +174,7 @@ module _ (k : Checked) (xs : List Reading) (ss : List Slip) (r : ReadingsAre xs 
       back : suc (highest ss - 1) ≡ highest ss
       back = omega (arith, high)
 
-  verdict_fits : VerdictFits g ss (verdict_at k.replicas k.tolerated k.groups h xs)
+  verdict_fits : VerdictFits g ss (verdict_at k h xs)
   verdict_fits =
       cond_both (eqb h 0) Highest _ (VerdictFits g ss) (λ e. let z : highest ss ≡ 0 = sym level ∙ eqb-true h 0 e in cards.nothing z z refl)
       (λ e. cond_both (leb (k.tolerated + 1) (notes_at h xs)) Highest _ (VerdictFits g ss) (λ f. cards.noted (noted_from_count (k.tolerated + 1) (leb-true (k.tolerated + 1) (notes_at h xs) f)) refl refl)

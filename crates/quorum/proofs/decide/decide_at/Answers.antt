@@ -2,7 +2,7 @@
 use Rattle.std.proofs.Common.{rules}
 use Rattle.quorum.specs.Decide.{decided_at}
 use Rattle.quorum.proofs.Lowest.{lowest_found}
-use Rattle.quorum.proofs.rule.Rule.decide_at.Goals as goal
+use Rattle.quorum.proofs.decide.decide_at.Goals as goal
 
 pub returns : goal.returns
 unfolding decided_at

@@ -3,7 +3,7 @@ use Rattle.std.proofs.Common.{◌∙◌, eqb, rules, tests}
 use Rattle.std.proofs.lemmas.Iterator.{YieldsList-from_slice}
 use Rattle.std.proofs.lemmas.Iterator.Search.{any_from_yields_List}
 use Rattle.quorum.proofs.From.{from_is_any}
-use Rattle.quorum.proofs.tally.is_from.Goals as goal
+use Rattle.quorum.proofs.tally.Tally.is_from.Goals as goal
 
 pub returns : goal.returns
 returns g c =
