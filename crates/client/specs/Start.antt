@@ -1,5 +1,5 @@
 -- A client that starts a round, and what it puts out.
-use Rattle.std.specs.Prelude.{ℕ, ◌+◌, ◌*◌, min, ℤ}
+use Rattle.std.specs.Prelude.{ℕ, ◌+◌, ◌*◌, min, cond, ℤ, ◌==◌}
 use Rattle.wire.specs.declared.message.Message.{Message}
 use Rattle.orders.specs.declared.order.Order.{Order}
 use Rattle.orders.specs.declared.order.Order.TheVariants.{Write, Read, Tell}
@@ -30,16 +30,6 @@ outgoing k kind who c =
 abbrev pub raised : ℕ → ℕ
 raised n = min (n + 1) 4294967295
 
--- a write takes the new round as its version, and the value written before it as previous
-abbrev pub writing : Client → ℤ → Client
-writing c z = record c { round = raised c.round; version = raised c.round; value = z; previous = c.value; phase = Writing no_receipts }
-
-abbrev pub asking : Client → Client
-asking c = record c { round = raised c.round; phase = Asking no_readings }
-
-abbrev pub telling : Client → Client
-telling c = record c { round = raised c.round; phase = Telling no_receipts }
-
 abbrev pub order_of : Round → Order
 order_of (WriteRound z) = Write z
 order_of (ReadRound c) = Read c
@@ -50,13 +40,14 @@ kind_of (WriteRound z) = 1
 kind_of (ReadRound c) = 2
 kind_of (TellRound c) = 3
 
--- how many messages it puts out
-abbrev pub count_of : Checked → Round → ℕ
-count_of k (WriteRound z) = k.replicas
-count_of k (ReadRound c) = k.replicas
-count_of k (TellRound c) = 3 * k.tolerated + 1
+-- how many messages a set of a kind has: one to each replica, or 3t + 1 of a tell
+abbrev pub set_size : Checked → ℕ → ℕ
+set_size k kind = cond (kind == 3) (3 * k.tolerated + 1) k.replicas
 
+-- One round more, in the phase that awaits its replies. A write takes the new round as its version, and the value written
+-- before it as previous.
 abbrev pub started : Client → Round → Client
-started c (WriteRound z) = writing c z
-started c (ReadRound r) = asking c
-started c (TellRound r) = telling c
+started c (WriteRound z) =
+    record c { round = raised c.round; version = raised c.round; value = z; previous = c.value; phase = Writing no_receipts }
+started c (ReadRound r) = record c { round = raised c.round; phase = Asking no_readings }
+started c (TellRound r) = record c { round = raised c.round; phase = Telling no_receipts }

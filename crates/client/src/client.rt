@@ -19,7 +19,7 @@ pub enum Phase {
 /// A client: withdrawn or not, its round, what it knows and its phase.
 #[derive(Debug, Clone, Copy)]
 pub struct Client {
-    // Stays: a flag and no phase more: a client that is withdrawn keeps the phase that it was in.
+    /// withdrawn; it keeps the phase that it was in
     pub out: bool,
     /// raised by every set of messages that it puts out
     pub round: u32,

@@ -25,7 +25,6 @@ fn ended(client: u8, version: u32, value: i32, rounds: u8) -> Answer
 
 impl Phase {
     // Counts a reply of the awaited kind, once per replica, in place.
-    // Stays: the product's rules name this form: a match on the client's phase and the message's kind.
     // Inlined, as `is_complete` and `hear` are, so that a carry counts a reply with no call between.
     #[inline(always)]
     fn count(&mut self, m: Message) -> bool

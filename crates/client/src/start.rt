@@ -2,7 +2,7 @@
 ghost use Rattle.std.specs.Prelude.{◌≡◌};
 ghost use Rattle.wire.specs.Kind.{number_of};
 ghost use Rattle.client.specs.Client.{opened_client};
-ghost use Rattle.client.specs.Start.{order_of, kind_of, started, outgoing};
+ghost use Rattle.client.specs.Start.{order_of, kind_of, set_size, started, outgoing};
 ghost use Rattle.orders.specs.Order.{named};
 
 use crate::client::{Client, Phase};
@@ -11,17 +11,17 @@ use settings::checked::Checked;
 use wire::kind::Kind;
 use wire::message::Message;
 
-/// A round that a client begins: of a write its value, of a reader its place in the table.
-#[derive(Clone, Copy)]
+/// A round that a client begins: of a write its value, of a reader its number.
+#[derive(Debug, Clone, Copy, PartialEq, Eq)]
 pub enum Round {
     Write(i32),
-    Read(usize),
-    Tell(usize),
+    Read(u8),
+    Tell(u8),
 }
 
 impl Round {
-    /// The place of the client in the table.
-    pub fn client(self) -> usize
+    /// The client that begins it: 0, the writer, or the reader.
+    pub fn client(self) -> u8
         ensures { result ≡ named (order_of self) }
     {
         match self {
@@ -37,6 +37,16 @@ impl Round {
             Round::Write(_) => Kind::Write,
             Round::Read(_) => Kind::Read,
             Round::Tell(_) => Kind::Tell,
+        }
+    }
+
+    /// How many messages it puts out: one to each replica, or 3t + 1 of a tell.
+    pub fn count(self, k: &Checked) -> u8
+        ensures { result ≡ set_size k.now (kind_of self) }
+    {
+        match self {
+            Round::Write(_) | Round::Read(_) => k.replicas,
+            Round::Tell(_) => 3 * k.tolerated + 1,
         }
     }
 }

@@ -1,11 +1,11 @@
 -- One order more of a list, with its answer.
 use Rattle.std.proofs.Common.{◌≡◌, ℕ, ◌+◌, ◌<◌, List, [], ◌∷◌, ◌++◌, length, take, drop, set, sym, refl, ap, ◌∙◌, arith}
-use Rattle.std.proofs.lemmas.List.{take_more_set, drop-drop, drop-set-lt, map_push}
+use Rattle.std.proofs.lemmas.List.{length-drop, take_more_set, drop-drop, drop-set-lt, map_push}
 use Rattle.orders.specs.declared.order.Order.{Order}
 use Rattle.orders.specs.declared.answer.Answer.{Answer}
 use Rattle.register.specs.World.{World, Answered, sent_in}
 use Rattle.laws.specs.Entries.{Entry}
-use Rattle.register.specs.Past.{start, more, Ran}
+use Rattle.register.specs.Past.{start, more, Ran, Filled}
 
 -- nothing was done yet
 pub ran_none : (v : World) → Ran v [] [] v
@@ -28,17 +28,18 @@ module _ {B : Type 0} where
       let lt : i < i + 1 = omega arith in
       drop-set-lt (i + 1) ys i y lt ∙ sym (drop-drop 1 i ys) ∙ ap (drop 1) e ∙ drop-drop 1 i zs
 
--- a loop that fills answers: the first i are those of the orders done, and the later ones are what they were
-pub record Filled (v : World) (os : List Order) (before after : List Answer) (i : ℕ) (w : World) : Type 0 where
-  pub ran : Ran v os (take i after) w
-  pub later : drop i after ≡ drop i before
+-- the answers of the orders done stand in the first places
+abbrev pub FilledBy : World → List Order → World → ℕ → List Answer → List Answer → Type 0
+FilledBy v os w i before after = Filled (λ rs. Ran v os rs w) i before after
 
-pub filled_none : (v : World) (rs : List Answer) → Filled v [] rs rs 0 v
-filled_none v rs = record { ran = ran_none v; later = refl }
+pub filled_none : (v : World) (rs : List Answer) → FilledBy v [] v 0 rs rs
+filled_none v rs = record { said = ran_none v; later = refl; enough = omega arith }
 
-pub filled_more : {v w u : World} {os : List Order} {before : List Answer} (after : List Answer) (i : ℕ) (o : Order) (a : Answer) → i < length after → Filled v os before after i w → Answered w o a u → Filled v (os ++ o ∷ []) before (set after i a) (i + 1) u
+pub filled_more : {v w u : World} {os : List Order} {before : List Answer} (after : List Answer) (i : ℕ) (o : Order) (a : Answer) → i < length after → FilledBy v os w i before after → Answered w o a u
+    → FilledBy v (os ++ o ∷ []) u (i + 1) before (set after i a)
 filled_more {v} {w} {u} {os} {before} after i o a place h s =
     record {
-      ran = rw (take_more_set after i a place) (ran_more v w u os (take i after) o a h.ran s);
+      said = rw (take_more_set after i a place) (ran_more v w u os (take i after) o a h.said s);
       later = rest_more after before i a h.later;
+      enough = omega (arith, h.enough, ap length h.later, length-drop i after, length-drop i before);
     }

@@ -5,12 +5,7 @@ use Rattle.std.specs.List.Sorted.{IsPermutation}
 use Rattle.std.proofs.lemmas.List.Sorted.{IsPermutation-cons, IsPermutation-trans, IsPermutation-sym, IsPermutation-middle}
 use Rattle.wire.specs.declared.message.Message.{Message}
 use Rattle.wire.specs.Channel.{Contents, Sends}
-use Rattle.register.specs.declared.register.Register.{Register}
-use Rattle.client.specs.declared.start.Round.{Round}
-use Rattle.client.specs.declared.start.Round.TheVariants.{Write, Read, Tell}
 use Rattle.register.specs.Send.{copies, toward}
-use Rattle.register.specs.Calls.{put_out}
-use Rattle.client.specs.Start.{order_of, count_of}
 
 pub length_copies : (m : Message) (n : ℕ) → length (copies m n) ≡ n
 length_copies m zero = refl
@@ -28,9 +23,3 @@ one_more m x n first before after e (had, some) (put, one) =
           (IsPermutation-trans _ _ _ (rw e at put) (IsPermutation-trans _ _ _ (IsPermutation-cons _ _ _ had) (IsPermutation-sym _ _ (IsPermutation-middle (copies m n) (toward m n) first.waiting)))),
       omega (arith, some, one, long),
     )
-
--- a round puts out one message for each of its replicas
-pub length_put_out : (r : Register) (q : Round) → length (put_out r (order_of q)) ≡ count_of r.settings q
-length_put_out r (Write z) = simp length_copies
-length_put_out r (Read c) = simp length_copies
-length_put_out r (Tell c) = simp length_copies

@@ -7,42 +7,36 @@ use Rattle.orders.specs.declared.answer.Refusal.{Refusal}
 use Rattle.orders.specs.declared.answer.Answer.{Answer}
 use Rattle.orders.specs.declared.answer.Answer.TheVariants.{Accepted, Refused}
 use Rattle.client.specs.declared.client.Client.{Client}
-use Rattle.client.specs.Start.{writing, asking, telling, outgoing}
+use Rattle.client.specs.declared.start.Round.{Round}
+use Rattle.client.specs.declared.start.Round.TheVariants.{Write as WriteRound, Read as ReadRound, Tell as TellRound}
+use Rattle.client.specs.Start.{started, outgoing, order_of, kind_of, set_size}
+use Rattle.orders.specs.Order.{named}
 use Rattle.register.specs.declared.register.Register.{Register}
 use Rattle.register.specs.Register.{client_at, with_client}
-use Rattle.register.specs.Send.{copies, all_of, told_of}
+use Rattle.register.specs.Send.{copies}
 
 abbrev pub gone : Client → Client
 gone c = record c { out = true }
 
-abbrev pub written : Register → ℤ → Register
-written r z = with_client r 0 (writing (client_at r 0) z)
-
-abbrev pub asked : Register → ℕ → Register
-asked r c = with_client r c (asking (client_at r c))
-
-abbrev pub told : Register → ℕ → Register
-told r c = with_client r c (telling (client_at r c))
-
-abbrev pub replica_gone : Register → ℕ → Register
-replica_gone r b = record r { outs = r.outs + 1; out = slice_set r.out b true }
-
-abbrev pub client_gone : Register → ℕ → Register
-client_gone r c = with_client r c (gone (client_at r c))
-
+-- the register after an accepted call
 abbrev pub accepted : Register → Order → Register
-accepted r (Write z) = written r z
-accepted r (Read c) = asked r c
-accepted r (Tell c) = told r c
+accepted r (Write z) = with_client r 0 (started (client_at r 0) (WriteRound z))
+accepted r (Read c) = with_client r c (started (client_at r c) (ReadRound c))
+accepted r (Tell c) = with_client r c (started (client_at r c) (TellRound c))
 accepted r Carry = r
-accepted r (ReplicaOut b) = replica_gone r b
-accepted r (ClientOut c) = client_gone r c
+accepted r (ReplicaOut i) = record r { outs = r.outs + 1; out = slice_set r.out i true }
+accepted r (ClientOut c) = with_client r c (gone (client_at r c))
 
--- the messages that an accepted call puts into the channel
+-- the messages that an accepted call puts into the channel: those of the round that it begins
+abbrev pub round_of : Register → Round → List Message
+round_of r q =
+    let c = named (order_of q) in
+    copies (outgoing r.settings (kind_of q) c (started (client_at r c) q)) (set_size r.settings (kind_of q))
+
 abbrev pub put_out : Register → Order → List Message
-put_out r (Write z) = copies (outgoing r.settings 1 0 (writing (client_at r 0) z)) (all_of r)
-put_out r (Read c) = copies (outgoing r.settings 2 c (asking (client_at r c))) (all_of r)
-put_out r (Tell c) = copies (outgoing r.settings 3 c (telling (client_at r c))) (told_of r)
+put_out r (Write z) = round_of r (WriteRound z)
+put_out r (Read c) = round_of r (ReadRound c)
+put_out r (Tell c) = round_of r (TellRound c)
 put_out r _ = []
 
 -- a refusal changes nothing and puts nothing out

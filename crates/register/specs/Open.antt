@@ -1,5 +1,5 @@
 -- Which settings open a register over which channel.
-use Rattle.std.specs.Prelude.{◌≡◌, ℕ, cond, length, Some, None, Option, nat_lt}
+use Rattle.std.specs.Prelude.{◌≡◌, ℕ, cond, length, Some, None, Option, Result, MatchResult, nat_lt}
 use Rattle.wire.specs.Channel.{Contents}
 use Rattle.register.specs.declared.register.Register.{Register}
 use Rattle.register.specs.Register.{opened}
@@ -26,3 +26,7 @@ pub record Opens (s : Settings) (x : Contents) (r : Register) : Type 0 where
   pub accepted : opening_fault s x ≡ None
   pub passed : given settings ≡ s
   pub register : r ≡ opened settings
+
+-- a register is opened, or the settings or the channel have a fault
+abbrev pub Opening : Settings → Contents → Result Register RegisterFault → Type 0
+Opening s x result = MatchResult result (λ r. Opens s x r) (λ e. opening_fault s x ≡ Some e)

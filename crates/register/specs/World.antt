@@ -66,3 +66,7 @@ abbrev pub sent_in : (v : World) (o : Order) (a : Answer) (w : World) → Answer
 sent_in v Carry a w (inl s) = option_to_list (handled_reply v.register s.message)
 sent_in v Carry a w (inr s) = []
 sent_in v o a w s = sent_by v o
+
+-- an order is done by a register over its channel
+abbrev pub Does : {C : Type 0} → (C → Contents) → Register → C → Order → Answer → Register → C → Type 0
+Does contents r c o a r' c' = Answered (world r (contents c)) o a (world r' (contents c'))

@@ -43,7 +43,6 @@ impl From<ChannelFault> for RegisterFault {
 
 impl RegisterFault {
     /// The number that a listing shows, 1 to 6.
-    // Stays: no plainer as a From: it stands inside the drill's fault, whose number is asked by this name too.
     pub fn number(self) -> u32
         ensures { result ≡ fault_number self }
     {

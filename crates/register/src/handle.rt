@@ -17,29 +17,28 @@ impl Register {
         ensures answer { result.0 ≡ handled_answer self.old m }
         ensures reply { result.1 ≡ handled_reply self.old m }
     {
-        let k = self.settings;
         let Ok(kind) = Kind::try_from(m.kind) else {
             return (Answer::Dropped, None);
         };
-        if m.replica >= k.replicas || m.client > k.readers {
+        if m.replica >= self.settings.replicas || m.client > self.settings.readers {
             return (Answer::Dropped, None);
         }
-        let b = usize::from(m.replica);
-        let c = usize::from(m.client);
+        let i = usize::from(m.replica);
+        let who = usize::from(m.client);
         if kind.is_request() {
-            if self.out[b] {
+            if self.out[i] {
                 return (Answer::Lost(m.client), None);
             }
-            // Stays: the product's rules name this form: one row of the table is lent to the delivery step.
-            match self.rows[b].deliver(m) {
+            // One row of the table is lent to the delivery step; the others stay as they were.
+            match self.rows[i].deliver(m) {
                 Some(reply) => (Answer::Replied(m.client), Some(reply)),
                 None => (Answer::Ignored(m.client), None),
             }
         } else {
-            if self.clients[c].out {
+            if self.clients[who].out {
                 return (Answer::Lost(m.client), None);
             }
-            (self.clients[c].hear(&k, m), None)
+            (self.clients[who].hear(&self.settings, m), None)
         }
     }
 }

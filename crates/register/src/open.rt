@@ -1,7 +1,7 @@
 //! Opening a register: the check, which alone may refuse, then at once the making.
-ghost use Rattle.std.specs.Prelude.{◌≡◌, length, Some, None, MatchResult};
+ghost use Rattle.std.specs.Prelude.{◌≡◌};
 ghost use Rattle.settings.specs.Fault.{FailsBy};
-ghost use Rattle.register.specs.Open.{channel_fault, opening_fault, Opens};
+ghost use Rattle.register.specs.Open.{channel_fault, Opening};
 ghost use Rattle.register.specs.Register.{opened};
 
 use crate::fault::{ChannelFault, RegisterFault};
@@ -43,7 +43,7 @@ fn make(settings: Checked) -> Register
 impl Register {
     /// Opens a register over a channel; a fault leaves nothing behind.
     pub fn open<C: Channel>(s: Settings, c: &C) -> Result<Register, RegisterFault>
-        ensures { MatchResult result (λ x. Opens s (C.contents c.now) x) (λ e. opening_fault s (C.contents c.now) ≡ Some e) }
+        ensures { Opening s (C.contents c.now) result }
     {
         let settings = Checked::try_from(s)?;
         check_channel(c, s.replicas)?;

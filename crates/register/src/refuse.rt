@@ -1,20 +1,22 @@
 //! Why a call is sent back: the first refusal that fits, tried in rising order of the numbers.
 ghost use Rattle.std.specs.Prelude.{◌≡◌, ◌<◌, IfOk};
 ghost use Rattle.settings.specs.Fault.{FailsBy};
-ghost use Rattle.register.specs.Refuse.{write_refusal, read_refusal, tell_refusal, reader_refusal, replica_out_refusal, client_out_refusal};
+ghost use Rattle.client.specs.Start.{kind_of};
+ghost use Rattle.register.specs.Refuse.{write_refusal, read_refusal, tell_refusal, reader_refusal, room_refusal, replica_out_refusal, client_out_refusal};
 
 use crate::register::Register;
+use crate::send::has_room;
 use client::client::Phase;
+use client::start::Round;
 use orders::answer::Refusal;
 use settings::limits::ROUNDS_MAX;
 use settings::range::value_in_range;
+use wire::channel::Channel;
 
-// A number that passes is given back as its place in the table.
-// Stays: the bound on that place stands in each contract: a struct with a ghost field for it would be made in one function and opened at every index.
+// A reader's or client's number that passes is given back as one byte, which indexes the table.
 impl Register {
-    /// room: the channel has a free place for each message of the set.
-    pub(crate) fn check_write(&self, room: bool, value: i32) -> Result<(), Refusal>
-        ensures { FailsBy result (write_refusal self.now room value) }
+    pub(crate) fn check_write<C: Channel>(&self, c: &C, value: i32) -> Result<(), Refusal>
+        ensures { FailsBy result (write_refusal self.now (C.contents c.now).free value) }
     {
         let writer = &self.clients[0];
         if writer.out {
@@ -29,78 +31,83 @@ impl Register {
         if writer.round >= ROUNDS_MAX {
             return Err(Refusal::RoundLimit);
         }
-        if !room {
-            return Err(Refusal::NoRoom);
-        }
-        Ok(())
+        self.check_room(c, Round::Write(value))
     }
 
-    pub(crate) fn check_read(&self, room: bool, reader: u32) -> Result<usize, Refusal>
-        ensures said { FailsBy result (read_refusal self.now room reader) }
-        ensures place { IfOk result (λ c. (c ≡ reader) × (c < 65)) }
+    pub(crate) fn check_read<C: Channel>(&self, c: &C, reader: u32) -> Result<u8, Refusal>
+        ensures said { FailsBy result (read_refusal self.now (C.contents c.now).free reader) }
+        ensures same { IfOk result (λ who. (who ≡ reader) × (who < 65)) }
     {
-        let c = self.check_reader(reader)?;
-        if !matches!(self.clients[c].phase, Phase::Idle) {
+        let who = self.check_reader(reader)?;
+        let client = &self.clients[usize::from(who)];
+        if !matches!(client.phase, Phase::Idle) {
             return Err(Refusal::Busy);
         }
-        if self.clients[c].round >= ROUNDS_MAX {
+        if client.round >= ROUNDS_MAX {
             return Err(Refusal::RoundLimit);
         }
-        if !room {
-            return Err(Refusal::NoRoom);
-        }
-        Ok(c)
+        self.check_room(c, Round::Read(who))?;
+        Ok(who)
     }
 
-    pub(crate) fn check_tell(&self, room: bool, reader: u32) -> Result<usize, Refusal>
-        ensures said { FailsBy result (tell_refusal self.now room reader) }
-        ensures place { IfOk result (λ c. (c ≡ reader) × (c < 65)) }
+    pub(crate) fn check_tell<C: Channel>(&self, c: &C, reader: u32) -> Result<u8, Refusal>
+        ensures said { FailsBy result (tell_refusal self.now (C.contents c.now).free reader) }
+        ensures same { IfOk result (λ who. (who ≡ reader) × (who < 65)) }
     {
-        let c = self.check_reader(reader)?;
-        if !matches!(self.clients[c].phase, Phase::Due) {
+        let who = self.check_reader(reader)?;
+        if !matches!(self.clients[usize::from(who)].phase, Phase::Due) {
             return Err(Refusal::NotDue);
         }
-        if !room {
-            return Err(Refusal::NoRoom);
+        self.check_room(c, Round::Tell(who))?;
+        Ok(who)
+    }
+
+    // Has the channel a free place for each message of the round?
+    fn check_room<C: Channel>(&self, c: &C, round: Round) -> Result<(), Refusal>
+        ensures { FailsBy result (room_refusal self.now.settings (C.contents c.now).free (kind_of round)) }
+    {
+        if has_room(c, round.count(&self.settings)) {
+            Ok(())
+        } else {
+            Err(Refusal::NoRoom)
         }
-        Ok(c)
     }
 
     pub(crate) fn check_replica_out(&self, replica: u32) -> Result<usize, Refusal>
         ensures said { FailsBy result (replica_out_refusal self.now replica) }
-        ensures place { IfOk result (λ b. (b ≡ replica) × (b < 32)) }
+        ensures same { IfOk result (λ i. (i ≡ replica) × (i < 32)) }
     {
         if replica >= u32::from(self.settings.replicas) {
             return Err(Refusal::Unknown);
         }
-        let b = replica as usize;
-        if self.out[b] {
+        let i = replica as usize;
+        if self.out[i] {
             return Err(Refusal::AlreadyOut);
         }
         if self.outs >= self.settings.tolerated {
             return Err(Refusal::OutLimit);
         }
-        Ok(b)
+        Ok(i)
     }
 
-    pub(crate) fn check_client_out(&self, client: u32) -> Result<usize, Refusal>
+    pub(crate) fn check_client_out(&self, client: u32) -> Result<u8, Refusal>
         ensures said { FailsBy result (client_out_refusal self.now client) }
-        ensures place { IfOk result (λ c. (c ≡ client) × (c < 65)) }
+        ensures same { IfOk result (λ who. (who ≡ client) × (who < 65)) }
     {
         if client > u32::from(self.settings.readers) {
             return Err(Refusal::Unknown);
         }
-        let c = client as usize;
-        if self.clients[c].out {
+        let who = client as u8;
+        if self.clients[usize::from(who)].out {
             return Err(Refusal::Withdrawn);
         }
-        Ok(c)
+        Ok(who)
     }
 
-    /// A reader that is known and not out.
-    fn check_reader(&self, reader: u32) -> Result<usize, Refusal>
+    // A reader that is known and not out.
+    fn check_reader(&self, reader: u32) -> Result<u8, Refusal>
         ensures said { FailsBy result (reader_refusal self.now reader) }
-        ensures place { IfOk result (λ c. (c ≡ reader) × (c < 65)) }
+        ensures same { IfOk result (λ who. (who ≡ reader) × (who < 65)) }
     {
         if reader == 0 {
             return Err(Refusal::Unknown);

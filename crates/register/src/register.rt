@@ -4,7 +4,6 @@ use replica::row::Row;
 use settings::checked::Checked;
 
 /// Settings, replicas and clients. Tens of kilobytes: handed on by reference.
-// Stays: fixed tables, since the library allocates nothing.
 #[derive(Drop)]
 pub struct Register {
     pub(crate) settings: Checked,
@@ -15,9 +14,8 @@ pub struct Register {
     /// what each replica holds; the first S are in use
     pub(crate) rows: [Row; 32],
     /// how many replicas are out
-    // Stays: no plainer to count them in the table at each withdrawal, which asks for the number alone.
     pub(crate) outs: u8,
     /// which replicas are out; the first S are in use
-    // Stays: a table beside the rows: the delivery step is lent what a replica holds, and a struct of both would only be taken apart there.
+    // Beside the rows, since a row alone is lent to the delivery step.
     pub(crate) out: [bool; 32],
 }

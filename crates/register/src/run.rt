@@ -1,7 +1,7 @@
 //! Lists of orders: one answer for each.
 ghost use Rattle.std.specs.Prelude.{◌≡◌, ◌<◌, ◌≤◌, length, take, drop, MatchResult};
-ghost use Rattle.register.specs.World.{Answered, world};
-ghost use Rattle.register.specs.Past.{Ran};
+ghost use Rattle.register.specs.World.{Does};
+ghost use Rattle.register.specs.Past.{Runs};
 
 use crate::fault::RegisterFault;
 use crate::register::Register;
@@ -11,9 +11,8 @@ use wire::channel::Channel;
 
 impl Register {
     /// One order.
-    // Stays: an order is read from a sheet, so an enum holds it and one match does it; a table of functions would still need a place for each kind.
     pub fn order<C: Channel>(&mut self, c: &mut C, o: Order) -> Answer
-        ensures { Answered (world self.old (C.contents c.old)) o result (world self.new (C.contents c.new)) }
+        ensures { Does C.contents self.old c.old o result self.new c.new }
     {
         match o {
             Order::Write(value) => self.write(c, value),
@@ -27,23 +26,18 @@ impl Register {
 
     /// Does the orders and fills an answer for each; later answers keep what they held. Sent back whole, with `Answers`, where
     /// the answers are fewer than the orders.
-    // Stays: two lists, since the orders are only read, and the answers are lent memory to fill (no heap).
     pub fn run<C: Channel>(
         &mut self,
         c: &mut C,
         orders: &[Order],
         answers: &mut [Answer],
     ) -> Result<(), RegisterFault>
-        ensures { MatchResult result
-            (λ _. Ran (world self.old (C.contents c.old)) orders.now (take (length orders.now) answers.new) (world self.new (C.contents c.new))
-            × (drop (length orders.now) answers.new ≡ drop (length orders.now) answers.old)
-            × (length orders.now ≤ length answers.old))
-            (λ e. (e ≡ RegisterFault.Answers) × (length answers.old < length orders.now) × (answers.new ≡ answers.old) × (c.new ≡ c.old) × (self.new ≡ self.old)) }
+        ensures { Runs C.contents self.old c.old orders.now answers.old result answers.new self.new c.new }
     {
         if answers.len() < orders.len() {
             return Err(RegisterFault::Answers);
         }
-        // Stays: tried as a zip with iter_mut: the proof does not close, since nothing is known of what a zip's iter_mut wrote.
+        // By index, since nothing is known of what a zip with iter_mut wrote.
         for (i, o) in orders.iter().enumerate() {
             answers[i] = self.order(c, *o);
         }

@@ -6,21 +6,21 @@ ghost use Rattle.register.specs.Send.{copies, toward};
 use wire::channel::Channel;
 use wire::message::Message;
 
-/// Has the channel so many free places?
+// Has the channel so many free places?
 pub(crate) fn has_room<C: Channel>(c: &C, count: u8) -> bool
     ensures { result ≡ nat_le count (C.contents c.now).free }
 {
     c.free() >= u32::from(count)
 }
 
-/// The same message, to the replica b.
-fn to_replica(m: Message, b: u8) -> Message
-    ensures { result ≡ toward m b }
+// The same message, to the replica i.
+fn to_replica(m: Message, i: u8) -> Message
+    ensures { result ≡ toward m i }
 {
-    Message { replica: b, ..m }
+    Message { replica: i, ..m }
 }
 
-/// Puts in the message once for each of the replicas 0 to count - 1.
+// Puts in the message once for each of the replicas 0 to count - 1.
 #[tactic(auto, using(crate::proofs::Sends::length_copies))]
 // Inlined, so that the channel's `put` is known in the loop.
 #[inline(always)]
@@ -28,8 +28,7 @@ pub(crate) fn send<C: Channel>(c: &mut C, m: Message, count: u8)
     requires { count ≤ (C.contents c.old).free }
     ensures { Sends (copies m count) (C.contents c.old) (C.contents c.new) }
 {
-    // Stays: b is no index counted by hand but a replica's number, which each message carries.
-    for b in 0..count {
-        c.put(to_replica(m, b)).unwrap();
+    for i in 0..count {
+        c.put(to_replica(m, i)).unwrap();
     }
 }
