@@ -5,9 +5,9 @@ ghost use Rattle.runner.specs.Memory.{SameLenders, content};
 ghost use Rattle.runner.specs.Rehearse.{Rehearsed};
 ghost use Rattle.runner.specs.Choice.{room_of};
 
+use crate::drill::drill;
 use crate::fault::DrillFault;
 use crate::memory::Memory;
-use crate::rehearse::rehearse;
 use channels::delay::Delay;
 use channels::queue::Queue;
 use channels::slots::Slots;
@@ -36,16 +36,14 @@ pub fn rehearse_by<'a>(
     ensures rehearsed { Rehearsed sheet.now (empty (room_of choice (length cells.old))) (content memory.old) (content memory.new) result }
     ensures lent { SameLenders memory.old memory.new }
 {
-    // Stays: tried with a `&mut dyn Channel` that the form would choose: it does not check ("expected `&mut _`, found `&mut dyn Channel`", "a `dyn` type cannot stand for a type parameter yet").
     match choice {
-        Choice::Queue => rehearse(Queue::new(cells), sheet, memory),
-        Choice::Slots => rehearse(Slots::new(), sheet, memory),
-        Choice::DelayQueue(n) => rehearse(Delay::new(Queue::new(cells), n), sheet, memory),
-        Choice::DelaySlots(n) => rehearse(Delay::new(Slots::new(), n), sheet, memory),
-        Choice::DelayTwice(n, m) => rehearse(
-            Delay::new(Delay::new(Queue::new(cells), m), n),
-            sheet,
-            memory,
-        ),
+        Choice::Queue => drill(sheet, &mut Queue::new(cells), memory),
+        Choice::Slots => drill(sheet, &mut Slots::new(), memory),
+        Choice::DelayQueue(n) => drill(sheet, &mut Delay::new(Queue::new(cells), n), memory),
+        Choice::DelaySlots(n) => drill(sheet, &mut Delay::new(Slots::new(), n), memory),
+        Choice::DelayTwice(n, m) => {
+            let below = Delay::new(Queue::new(cells), m);
+            drill(sheet, &mut Delay::new(below, n), memory)
+        }
     }
 }

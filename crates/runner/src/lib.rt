@@ -5,4 +5,3 @@ pub mod choice;
 pub mod drill;
 pub mod fault;
 pub mod memory;
-pub mod rehearse;
