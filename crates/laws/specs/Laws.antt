@@ -1,6 +1,6 @@
 -- The laws of every past: one line, rounds, and ending. This is the statement to believe.
-use Rattle.std.specs.Prelude.{◌≡◌, ℕ, suc, ◌+◌, ◌-◌, ◌*◌, ◌<◌, ◌≤◌, ◌&&◌, ◌⊎◌, List, [], ◌∷◌, map, take, drop, ℤ, Some, sum_by, count_by, ◌==◌, ◌≢◌, nat_le, nat_lt}
-use Rattle.std.specs.List.{ContainsAt as Has, AllByRecursion}
+use Rattle.std.specs.Prelude.{◌≡◌, ℕ, suc, ◌+◌, ◌-◌, ◌*◌, ◌<◌, ◌≤◌, ◌&&◌, ◌⊎◌, List, [], ◌∷◌, map, take, drop, ℤ, Some, Contains, sum_by, count_by, ◌==◌, ◌≢◌, nat_le, nat_lt}
+use Rattle.std.specs.List.{AllByRecursion}
 use Rattle.orders.specs.declared.order.Order.TheVariants.{Tell, ClientOut}
 use Rattle.orders.specs.Answer.{listed_as}
 use Rattle.settings.specs.declared.checked.Checked.{Checked}
@@ -34,7 +34,7 @@ pub record OneLine (initial : ℤ) (es : List Entry) : Type 0 where
   pub line : List Operation
   pub once : NoTwice (map (λ o. o.begin) line)
   pub only : AllByRecursion (Belongs es) line
-  pub all : (o : Operation) → Belongs es o → Has line o
+  pub all : (o : Operation) → Belongs es o → Contains line o
   pub ordered : InOrder line
   pub shows : ShowsNearest 0 initial line
   -- an ended write's 105 names its number among the accepted writes, and the value that was ordered

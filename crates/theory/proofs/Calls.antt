@@ -1,6 +1,6 @@
 -- Calls as the log itself tells them.
 use Rattle.std.proofs.Common.{◌≡◌, ℕ, suc, ◌<◌, ◌⊎◌, List, [], ◌∷◌, length, ℤ}
-use Rattle.std.specs.List.{ContainsAt as Has, AllByRecursion}
+use Rattle.std.specs.List.{Contains, AllByRecursion}
 use Rattle.theory.proofs.Cards.{Params, Fit}
 use Rattle.orders.specs.declared.order.Order.{Order}
 use Rattle.orders.specs.declared.order.Order.TheVariants.{Write, Read, Tell, ClientOut}
@@ -71,7 +71,7 @@ AllEnd = (g : Params) → Fit g → (f : ℤ) (log : List Entry) (b : State) →
 -- the list of the ended calls is that of the calls that began and ended
 pub record Faithful (log : List Entry) : Type 0 where
   pub sound : AllByRecursion (λ d. BeginsAt log d.client d.begin × NextEnd log d.client d.begin d.end) (done log)
-  pub complete : (c i j : ℕ) → BeginsAt log c i → NextEnd log c i j → (d : Done) × Has (done log) d × (d.client ≡ c) × (d.begin ≡ i) × (d.end ≡ j)
+  pub complete : (c i j : ℕ) → BeginsAt log c i → NextEnd log c i j → (d : Done) × Contains (done log) d × (d.client ≡ c) × (d.begin ≡ i) × (d.end ≡ j)
 
 abbrev pub Tells : Type 0
 Tells = (g : Params) → Fit g → (f : ℤ) (log : List Entry) (b : State) → Trace g f log b → Faithful log

@@ -2,7 +2,7 @@
 use Rattle.std.proofs.Common.{◌≡◌, ℕ, suc, ◌+◌, ◌-◌, ◌*◌, ◌^◌, ◌<◌, ◌≤◌, max, Bool, true, false, ◌⊎◌, List, [], ◌∷◌, map, length, ℤ}
 use lib.Bits.{bit_or}
 use lib.Count.{ones}
-use Rattle.std.specs.List.{ContainsAt as Has, AllByRecursion}
+use Rattle.std.specs.List.{Contains, AllByRecursion}
 use Rattle.theory.proofs.Sets.{Distinct, Within}
 
 -- the settings, with the mark of each client
@@ -46,7 +46,7 @@ highest (s ∷ ss) = max s.card.version (highest ss)
 pub record Several (ss : List Slip) (m : ℕ) (P : Card → Type 0) : Type 0 where
   pub chosen : List Slip
   pub distinct : Distinct (replicas_of chosen)
-  pub from : AllByRecursion (Has ss) chosen
+  pub from : AllByRecursion (Contains ss) chosen
   pub enough : m ≤ length chosen
   pub each : AllByRecursion (λ s. P s.card) chosen
 

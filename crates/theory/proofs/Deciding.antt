@@ -2,10 +2,10 @@
 use Rattle.std.proofs.Common.{◌≡◌, ℕ, suc, ◌+◌, ◌-◌, ◌*◌, ◌^◌, ◌<◌, ◌≤◌, Bool, true, false, ◌⊎◌, List, [], ◌∷◌, length, sym, refl, ◌∙◌, subst, inl, inr, mul-le-mul_right, arith}
 use lib.Bits.{and_le_r, bit_or}
 use lib.Count.{ones, ones-le}
-use Rattle.std.proofs.ByRecursion.{All-map, all-has, all_has_itself, All-weaker}
 use Rattle.std.proofs.lemmas.List.{length-map}
 use Rattle.std.proofs.lemmas.Bool.{cases_lt, both_ways, true≢false}
-use Rattle.std.specs.List.{ContainsAt as Has, AllByRecursion}
+use Rattle.std.specs.List.{Contains, AllByRecursion}
+use Rattle.theory.proofs.Lists.{All-map, All-contains, All-contains_itself, All-weaker}
 use Rattle.theory.proofs.Sets.{Distinct, Within, Many}
 use Rattle.theory.proofs.Cards.{Params, Fit, Card, Slip, replicas_of, highest, Several, Noted, Seen, Decision, nothing, noted, seen, due, older, Ahead, Later}
 use Rattle.theory.proofs.Overlap.{many_both, many_weaker}
@@ -33,14 +33,14 @@ pub record Round (g : Params) (old : ℕ → Card) (own : ℕ) (ss : List Slip) 
 
 module _ (g : Params) (fit : Fit g) (old : ℕ → Card) (own : ℕ) (ss : List Slip) (r : Round g old own ss) where
   -- all slips, by their replicas
-  all_sent : Many g.replicas (length ss) (λ i. (s : Slip) × Has ss s × (s.replica ≡ i))
+  all_sent : Many g.replicas (length ss) (λ i. (s : Slip) × Contains ss s × (s.replica ≡ i))
   all_sent =
       record {
         places = replicas_of ss;
         distinct = r.distinct;
         below = All-map (λ i. i < g.replicas) (λ s. s.replica) ss r.below;
         enough = omega (arith, length-map ss (λ s. s.replica));
-        each = All-map _ (λ s. s.replica) ss (All-weaker (Has ss) (λ (s : Slip). (x : Slip) × Has ss x × (x.replica ≡ s.replica)) (λ s h. (s, h, refl)) ss (all_has_itself ss));
+        each = All-map _ (λ s. s.replica) ss (All-weaker (Contains ss) (λ (s : Slip). (x : Slip) × Contains ss x × (x.replica ≡ s.replica)) (λ s h. (s, h, refl)) ss (All-contains_itself ss));
       }
 
   -- What held of the cards of many replicas as the round began, and lasts, holds of all but t as many slips.
@@ -48,7 +48,7 @@ module _ (g : Params) (fit : Fit g) (old : ℕ → Card) (own : ℕ) (ss : List 
   met m n P Q h lasts x =
       several_from_many g.replicas ss n Q
       (many_weaker _ _ _ _
-      (λ i p. (p.1.0, p.1.1, p.1.2, lasts (old p.1.0.replica) p.1.0.card (subst (λ j. P (old j)) (sym p.1.2) p.0) (all-has (λ s. Later (old s.replica) s.card) ss p.1.0 r.after p.1.1)))
+      (λ i p. (p.1.0, p.1.1, p.1.2, lasts (old p.1.0.replica) p.1.0.card (subst (λ j. P (old j)) (sym p.1.2) p.0) (All-contains (λ s. Later (old s.replica) s.card) ss p.1.0 r.after p.1.1)))
       (many_both g.replicas m (length ss) n _ _ x all_sent (omega (arith, r.enough))))
 
   -- Several slips ahead of k: the highest is above k, or it is k and they are at it.
@@ -188,23 +188,23 @@ module _ (g : Params) (fit : Fit g) (now : ℕ → Card) (ss : List Slip)
       record {
         places = replicas_of x.chosen;
         distinct = x.distinct;
-        below = All-map (λ i. i < g.replicas) (λ s. s.replica) x.chosen (All-weaker (Has ss) (λ s. s.replica < g.replicas) (λ s h. all-has (λ s. s.replica < g.replicas) ss s below h) x.chosen x.from);
+        below = All-map (λ i. i < g.replicas) (λ s. s.replica) x.chosen (All-weaker (Contains ss) (λ s. s.replica < g.replicas) (λ s h. All-contains (λ s. s.replica < g.replicas) ss s below h) x.chosen x.from);
         enough = omega (arith, x.enough, length-map x.chosen (λ s. s.replica));
         each = All-map (λ i. Q (now i)) (λ s. s.replica) x.chosen (go x.chosen x.from x.each);
       }
     where
-      go : (xs : List Slip) → AllByRecursion (Has ss) xs → AllByRecursion (λ s. P s.card) xs → AllByRecursion (λ s. Q (now s.replica)) xs
+      go : (xs : List Slip) → AllByRecursion (Contains ss) xs → AllByRecursion (λ s. P s.card) xs → AllByRecursion (λ s. Q (now s.replica)) xs
       go [] f p = tt
-      go (y ∷ ys) f p = (lasts y.card (now y.replica) p.0 (all-has (λ s. Later s.card (now s.replica)) ss y before f.0), go ys f.1 p.1)
+      go (y ∷ ys) f p = (lasts y.card (now y.replica) p.0 (All-contains (λ s. Later s.card (now s.replica)) ss y before f.0), go ys f.1 p.1)
 
   -- There are V + 1 marks, so more than a in common means a is at most V.
   seen_factor : (x : Seen g ss 1) → x.factor ≤ g.groups
   seen_factor x = go x.replies.chosen x.replies.from x.replies.each (omega (arith, x.replies.enough, fit.room, mul-le-mul_right g.tolerated x.high))
     where
-      go : (xs : List Slip) → AllByRecursion (Has ss) xs → AllByRecursion (λ s. (s.card.version ≡ highest ss) × Within x.common s.card.marks) xs → 1 ≤ length xs → x.factor ≤ g.groups
+      go : (xs : List Slip) → AllByRecursion (Contains ss) xs → AllByRecursion (λ s. (s.card.version ≡ highest ss) × Within x.common s.card.marks) xs → 1 ≤ length xs → x.factor ≤ g.groups
       go [] f p some = absurd (omega arith)
       go (y ∷ ys) f p some =
-          let lt : y.card.marks < 2 ^ (g.groups + 1) = all-has (λ s. s.card.marks < 2 ^ (g.groups + 1)) ss y few f.0 in
+          let lt : y.card.marks < 2 ^ (g.groups + 1) = All-contains (λ s. s.card.marks < 2 ^ (g.groups + 1)) ss y few f.0 in
           let le : x.common ≤ y.card.marks = subst (λ n. n ≤ y.card.marks) p.0.1 (and_le_r x.common y.card.marks) in
           omega (arith, ones-le (g.groups + 1) x.common (omega arith), x.many)
 

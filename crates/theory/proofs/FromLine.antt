@@ -1,16 +1,15 @@
 -- One line of the operations of a past, from the line of the model's calls. It ends in `from_line`.
-use Rattle.std.proofs.Common.{◌≡◌, ℕ, zero, suc, ◌≤◌, Bool, true, false, ◌⊎◌, List, [], ◌∷◌, map, ℤ, Some, None, Option, sym, refl, ap, ◌∙◌, subst, inl, inr, arith}
-use Rattle.std.specs.List.{ContainsAt as Has, AllByRecursion}
+use Rattle.std.proofs.Common.{◌≡◌, ℕ, ◌≤◌, Bool, true, false, ◌⊎◌, List, [], ◌∷◌, map, ℤ, Some, None, Option, sym, refl, ap, ◌∙◌, subst, inl, inr, arith}
+use Rattle.std.specs.List.{Contains, AllByRecursion}
 use Rattle.std.proofs.lemmas.Option.{none-some, same_Some}
-use Rattle.std.proofs.ByRecursion.{All-weaker, all-has, All-map, all_has_itself}
 use Rattle.std.proofs.lemmas.Bool.{cases_Bool, cases_eq}
 use Rattle.orders.specs.declared.order.Order.{Order}
 use Rattle.orders.specs.declared.order.Order.TheVariants.{Write, Read}
 use Rattle.laws.specs.Entries.{Entry}
 use Rattle.laws.specs.Operations.{Operation, EndsAt, Ending, IsWrite, IsRead, Shown, Belongs}
 use Rattle.laws.specs.Laws.{Before, InOrder, NoTwice, ShowsNearest, OneLine}
+use Rattle.theory.proofs.Lists.{All-weaker, All-contains, All-map, all_from_map, All-contains_itself, has_here, has_there}
 use Rattle.theory.proofs.Sets.{Lacks, Distinct}
-use Rattle.theory.proofs.Members.{has_here, has_there}
 use Rattle.theory.proofs.History.{Done, values, value_at, begun, done}
 use Rattle.theory.proofs.Line.{Op, op, Respects, Shows, ends_of, Pending, Line}
 use Rattle.theory.proofs.Line as model
@@ -29,10 +28,8 @@ operation x = record { client = x.client; begin = x.begin; end = end_of x.ended 
 
 -- ---- lists
 
-has_map : {X Y : Type 0} (g : X → Y) (xs : List X) (x : X) → Has xs x → Has (map g xs) (g x)
-has_map g [] x h = absurd (omega (arith, h.1))
-has_map g (y ∷ ys) x (zero, l, at) = (zero, omega arith, λ d. ap g (at x))
-has_map g (y ∷ ys) x (suc k, l, at) = let r = has_map g ys x (k, omega (arith, l), at) in (suc r.0, omega (arith, r.1), r.2)
+has_map : {X Y : Type 0} (g : X → Y) (xs : List X) (x : X) → Contains xs x → Contains (map g xs) (g x)
+has_map g xs x h = All-contains (λ y. Contains (map g xs) (g y)) xs x (all_from_map (Contains (map g xs)) g xs (All-contains_itself (map g xs))) h
 
 abbrev made : ℕ → ℕ → Option ℕ → ℕ → ℤ → Operation
 made c b e v z = record { client = c; begin = b; end = e; version = v; value = z }
@@ -64,7 +61,7 @@ shows_nearest v z (x ∷ xs) (inl h) = inl (h.0, shows_nearest x.version x.value
 shows_nearest v z (x ∷ xs) (inr h) = inr (h.0, h.1, h.2, shows_nearest v z xs h.3)
 
 -- what a read shows stands in the line
-shown_stands : (v : ℕ) (z : ℤ) (xs : List Op) → Shows v z xs → AllByRecursion (λ x. (x.client ≡ 0 → ⊥) → (x.version ≡ v) ⊎ ((y : Op) × Has xs y × (y.client ≡ 0) × (y.version ≡ x.version))) xs
+shown_stands : (v : ℕ) (z : ℤ) (xs : List Op) → Shows v z xs → AllByRecursion (λ x. (x.client ≡ 0 → ⊥) → (x.version ≡ v) ⊎ ((y : Op) × Contains xs y × (y.client ≡ 0) × (y.version ≡ x.version))) xs
 shown_stands v z [] h = tt
 shown_stands v z (x ∷ xs) (inl h) =
     ((λ r. absurd (r h.0)), All-weaker _ _ (λ y p r. elim (p r) [ inl e ↦ inr (x, has_here x xs, h.0, sym e) | inr q ↦ inr (q.0, has_there x q.0 xs q.1, q.2, q.3) ]) xs (shown_stands x.version x.value xs h.1))
@@ -74,23 +71,23 @@ shown_stands v z (x ∷ xs) (inr h) =
 -- ---- a log with its line
 
 module _ (f : ℤ) (log : List Entry) (none : AllByRecursion NoReadOfWriter log) (on : Line f log) (faith : Faithful log) (nums : AllByRecursion (λ d. d.client ≡ 0 → WriteNo log d.begin d.version) (done log)) where
-  begins_of : (d : Done) → Has (done log) d → BeginsAt log d.client d.begin
-  begins_of d h = (all-has (λ d. BeginsAt log d.client d.begin × NextEnd log d.client d.begin d.end) (done log) d faith.sound h).0
+  begins_of : (d : Done) → Contains (done log) d → BeginsAt log d.client d.begin
+  begins_of d h = (All-contains (λ d. BeginsAt log d.client d.begin × NextEnd log d.client d.begin d.end) (done log) d faith.sound h).0
 
-  next_of : (d : Done) → Has (done log) d → NextEnd log d.client d.begin d.end
-  next_of d h = (all-has (λ d. BeginsAt log d.client d.begin × NextEnd log d.client d.begin d.end) (done log) d faith.sound h).1
+  next_of : (d : Done) → Contains (done log) d → NextEnd log d.client d.begin d.end
+  next_of d h = (All-contains (λ d. BeginsAt log d.client d.begin × NextEnd log d.client d.begin d.end) (done log) d faith.sound h).1
 
-  number_of : (d : Done) → Has (done log) d → d.client ≡ 0 → WriteNo log d.begin d.version
-  number_of d h = all-has (λ d. d.client ≡ 0 → WriteNo log d.begin d.version) (done log) d nums h
+  number_of : (d : Done) → Contains (done log) d → d.client ≡ 0 → WriteNo log d.begin d.version
+  number_of d h = All-contains (λ d. d.client ≡ 0 → WriteNo log d.begin d.version) (done log) d nums h
 
-  given_of : (x : Op) → Has on.line x → x.value ≡ value_at (values log) f x.version
-  given_of x h = all-has (λ x. x.value ≡ value_at (values log) f x.version) on.line x on.given h
+  given_of : (x : Op) → Contains on.line x → x.value ≡ value_at (values log) f x.version
+  given_of x h = All-contains (λ x. x.value ≡ value_at (values log) f x.version) on.line x on.given h
 
-  only_of : (x : Op) → Has on.line x → ((d : Done) × Has (done log) d × (x ≡ op d)) ⊎ Pending log x
-  only_of x h = all-has (λ x. ((d : Done) × Has (done log) d × (x ≡ op d)) ⊎ Pending log x) on.line x on.only h
+  only_of : (x : Op) → Contains on.line x → ((d : Done) × Contains (done log) d × (x ≡ op d)) ⊎ Pending log x
+  only_of x h = All-contains (λ x. ((d : Done) × Contains (done log) d × (x ≡ op d)) ⊎ Pending log x) on.line x on.only h
 
-  stands : (d : Done) → Has (done log) d → Has on.line (op d)
-  stands d h = all-has (λ d. Has on.line (op d)) (done log) d on.ended h
+  stands : (d : Done) → Contains (done log) d → Contains on.line (op d)
+  stands d h = All-contains (λ d. Contains on.line (op d)) (done log) d on.ended h
 
   -- ---- writes
 
@@ -119,7 +116,7 @@ module _ (f : ℤ) (log : List Entry) (none : AllByRecursion NoReadOfWriter log)
   -- the model's call of an operation that ended
   record EndedCall (o : Operation) (j : ℕ) : Type 0 where
     call : Done
-    has : Has (done log) call
+    has : Contains (done log) call
     client : call.client ≡ o.client
     begin : call.begin ≡ o.begin
     end : call.end ≡ j
@@ -147,13 +144,13 @@ module _ (f : ℤ) (log : List Entry) (none : AllByRecursion NoReadOfWriter log)
   number_pending x p =
       subst (λ i. WriteNo log i x.version) (sym p.begin) (subst (WriteNo log (begun log 0)) (sym p.version) (last_write log none (subst (λ n. 1 ≤ n) p.version p.some)))
 
-  not_ended : (x : Op) → Pending log x → (d : Done) → Has (done log) d → d.client ≡ 0 → d.begin ≡ x.begin → ⊥
+  not_ended : (x : Op) → Pending log x → (d : Done) → Contains (done log) d → d.client ≡ 0 → d.begin ≡ x.begin → ⊥
   not_ended x p d h c b =
       p.unended (record { call = d; has = h; writer = c; version = same_number x.begin d.version x.version (subst (λ i. WriteNo log i d.version) b (number_of d h c)) (number_pending x p) })
 
   -- ---- reads
 
-  is_read : (d : Done) → Has (done log) d → (d.client ≡ 0 → ⊥) → IsRead (oldest log) (operation (op d))
+  is_read : (d : Done) → Contains (done log) d → (d.client ≡ 0 → ⊥) → IsRead (oldest log) (operation (op d))
   is_read d h reader =
       let b = begins_of d h in
       let n = next_told log d.client d.begin d.end (next_of d h) in
@@ -179,7 +176,7 @@ module _ (f : ℤ) (log : List Entry) (none : AllByRecursion NoReadOfWriter log)
   shown_of : (x : Op) → Pending log x → Shown (oldest log) (operation x)
   shown_of x p = (operation (op p.shown.call), is_read p.shown.call p.shown.has p.shown.reader, p.shown.version)
 
-  belongs : (x : Op) → Has on.line x → Belongs (oldest log) (operation x)
+  belongs : (x : Op) → Contains on.line x → Belongs (oldest log) (operation x)
   belongs x h =
       elim (only_of x h) [
         | inl q ↦ subst (λ x. Belongs (oldest log) (operation x)) (sym q.2) (elim (cases_eq q.0.client 0) [
@@ -197,7 +194,7 @@ module _ (f : ℤ) (log : List Entry) (none : AllByRecursion NoReadOfWriter log)
 
   -- ---- once
 
-  apart : (x y : Op) → Has on.line x → Has on.line y → (x.end ≡ y.end → ⊥) → x.begin ≡ y.begin → ⊥
+  apart : (x y : Op) → Contains on.line x → Contains on.line y → (x.end ≡ y.end → ⊥) → x.begin ≡ y.begin → ⊥
   apart x y h k ends begins =
       elim (only_of x h) [
         | inl q ↦ elim (only_of y k) [
@@ -210,12 +207,12 @@ module _ (f : ℤ) (log : List Entry) (none : AllByRecursion NoReadOfWriter log)
         ]
       ]
     where
-      one : (x : Op) → Pending log x → (d : Done) → Has (done log) d → d.begin ≡ x.begin → ⊥
+      one : (x : Op) → Pending log x → (d : Done) → Contains (done log) d → d.begin ≡ x.begin → ⊥
       one x p d h b =
           let c : d.client ≡ 0 = begins_same log d.client 0 x.begin (subst (BeginsAt log d.client) b (begins_of d h)) (begins_write x.begin x.version (number_pending x p)) in
           not_ended x p d h c b
 
-      both : (d : Done) × Has (done log) d × (x ≡ op d) → (d : Done) × Has (done log) d × (y ≡ op d) → ⊥
+      both : (d : Done) × Contains (done log) d × (x ≡ op d) → (d : Done) × Contains (done log) d × (y ≡ op d) → ⊥
       both q r =
           let b : q.0.begin ≡ r.0.begin = ap (λ (o : Op). o.begin) (sym q.2) ∙ begins ∙ ap (λ (o : Op). o.begin) r.2 in
           let s : BeginsAt log q.0.client r.0.begin = subst (BeginsAt log q.0.client) b (begins_of q.0 q.1) in
@@ -223,50 +220,50 @@ module _ (f : ℤ) (log : List Entry) (none : AllByRecursion NoReadOfWriter log)
           let n : NextEnd log r.0.client r.0.begin q.0.end = subst (λ c. NextEnd log c r.0.begin q.0.end) c (subst (λ i. NextEnd log q.0.client i q.0.end) b (next_of q.0 q.1)) in
           ends (ap (λ (o : Op). o.end) q.2 ∙ next_same log r.0.client r.0.begin q.0.end r.0.end n (next_of r.0 r.1) ∙ ap (λ (o : Op). o.end) (sym r.2))
 
-  once_of : (xs : List Op) → Distinct (ends_of xs) → AllByRecursion (Has on.line) xs → NoTwice (map (λ o. o.begin) (map operation xs))
+  once_of : (xs : List Op) → Distinct (ends_of xs) → AllByRecursion (Contains on.line) xs → NoTwice (map (λ o. o.begin) (map operation xs))
   once_of [] d h = tt
   once_of (x ∷ xs) d h = (others xs d.0 h.1, once_of xs d.1 h.1)
     where
-      others : (ys : List Op) → Lacks x.end (ends_of ys) → AllByRecursion (Has on.line) ys → AllByRecursion (λ j. x.begin ≡ j → ⊥) (map (λ o. o.begin) (map operation ys))
+      others : (ys : List Op) → Lacks x.end (ends_of ys) → AllByRecursion (Contains on.line) ys → AllByRecursion (λ j. x.begin ≡ j → ⊥) (map (λ o. o.begin) (map operation ys))
       others [] l k = tt
       others (y ∷ ys) l k = (apart x y h.0 k.0 l.0, others ys l.1 k.1)
 
   -- ---- all
 
-  has_call : (d : Done) → Has (done log) d → (o : Operation) → operation (op d) ≡ o → Has (map operation on.line) o
-  has_call d h o e = subst (Has (map operation on.line)) e (has_map operation on.line (op d) (stands d h))
+  has_call : (d : Done) → Contains (done log) d → (o : Operation) → operation (op d) ≡ o → Contains (map operation on.line) o
+  has_call d h o e = subst (Contains (map operation on.line)) e (has_map operation on.line (op d) (stands d h))
 
-  has_ended : (o : Operation) (j : ℕ) → o.end ≡ Some j → EndedCall o j → Has (map operation on.line) o
+  has_ended : (o : Operation) (j : ℕ) → o.end ≡ Some j → EndedCall o j → Contains (map operation on.line) o
   has_ended o j e s = has_call s.call s.has o (same_operation _ o s.client s.begin (ap Some s.end ∙ sym e) s.version s.value)
 
-  has_read : (o : Operation) → IsRead (oldest log) o → Has (map operation on.line) o
+  has_read : (o : Operation) → IsRead (oldest log) o → Contains (map operation on.line) o
   has_read o r = has_ended o r.place r.end (ended_read o r)
 
   -- an unended write that a read shows
-  has_unended : (o : Operation) → IsWrite (oldest log) o → o.end ≡ None → ((j : ℕ) → EndsAt (oldest log) 0 o.begin j → ⊥) → (d : Done) → Has (done log) d → (d.client ≡ 0 → ⊥) → d.version ≡ o.version → Has (map operation on.line) o
+  has_unended : (o : Operation) → IsWrite (oldest log) o → o.end ≡ None → ((j : ℕ) → EndsAt (oldest log) 0 o.begin j → ⊥) → (d : Done) → Contains (done log) d → (d.client ≡ 0 → ⊥) → d.version ≡ o.version → Contains (map operation on.line) o
   has_unended o w e n d h reader v =
-      elim (all-has (λ x. (x.client ≡ 0 → ⊥) → (x.version ≡ 0) ⊎ ((y : Op) × Has on.line y × (y.client ≡ 0) × (y.version ≡ x.version))) on.line (op d) (shown_stands 0 f on.line on.shows) (stands d h) reader) [
+      elim (All-contains (λ x. (x.client ≡ 0 → ⊥) → (x.version ≡ 0) ⊎ ((y : Op) × Contains on.line y × (y.client ≡ 0) × (y.version ≡ x.version))) on.line (op d) (shown_stands 0 f on.line on.shows) (stands d h) reader) [
         | inl z ↦ absurd (omega (arith, z, v, w.number))
         | inr q ↦ elim (only_of q.0 q.1) [
           | inl r ↦ absurd (ended r (sym (ap (λ (o : Op). o.client) r.2) ∙ q.2) (sym (ap (λ (o : Op). o.version) r.2) ∙ q.3 ∙ v))
           | inr p ↦ (let u = q.3 ∙ v in
-              subst (Has (map operation on.line))
+              subst (Contains (map operation on.line))
               (same_operation _ o (p.writer ∙ sym w.client) (write_place f log none q.0.begin o.begin o.version (subst (WriteNo log q.0.begin) u (number_pending q.0 p)) (number_at o w))
               (ap (λ b. end_of b q.0.end) p.ended ∙ sym e) u (given_of q.0 q.1 ∙ ap (value_at (values log) f) u ∙ sym (value_at_lem o w)))
               (has_map operation on.line q.0 q.1))
         ]
       ]
     where
-      ended : {y : Op} → (r : (d : Done) × Has (done log) d × (y ≡ op d)) → r.0.client ≡ 0 → r.0.version ≡ o.version → ⊥
+      ended : {y : Op} → (r : (d : Done) × Contains (done log) d × (y ≡ op d)) → r.0.client ≡ 0 → r.0.version ≡ o.version → ⊥
       ended r c u =
           let b : r.0.begin ≡ o.begin = write_place f log none r.0.begin o.begin o.version (subst (WriteNo log r.0.begin) u (number_of r.0 r.1 c)) (number_at o w) in
           let m : NextEnd log 0 o.begin r.0.end = subst (λ i. NextEnd log 0 i r.0.end) b (subst (λ c. NextEnd log c r.0.begin r.0.end) c (next_of r.0 r.1)) in
           n r.0.end (next_told log 0 o.begin r.0.end m)
 
-  has_write : (o : Operation) → IsWrite (oldest log) o → ((j : ℕ) × (o.end ≡ Some j)) ⊎ Shown (oldest log) o → Has (map operation on.line) o
+  has_write : (o : Operation) → IsWrite (oldest log) o → ((j : ℕ) × (o.end ≡ Some j)) ⊎ Shown (oldest log) o → Contains (map operation on.line) o
   has_write o w why = go o.end refl w.ending
     where
-      go : (t : Option ℕ) → o.end ≡ t → Ending (oldest log) 0 o.begin t → Has (map operation on.line) o
+      go : (t : Option ℕ) → o.end ≡ t → Ending (oldest log) 0 o.begin t → Contains (map operation on.line) o
       go (Some j) e n = has_ended o j e (ended_write o j w (next_log log 0 o.begin j n))
       go None e n =
           elim why [
@@ -278,8 +275,8 @@ module _ (f : ℤ) (log : List Entry) (none : AllByRecursion NoReadOfWriter log)
   from_line =
       record {
         line = map operation on.line;
-        once = once_of on.line on.once (all_has_itself on.line);
-        only = All-map (Belongs (oldest log)) operation on.line (All-weaker (Has on.line) (λ x. Belongs (oldest log) (operation x)) belongs on.line (all_has_itself on.line));
+        once = once_of on.line on.once (All-contains_itself on.line);
+        only = All-map (Belongs (oldest log)) operation on.line (All-weaker (Contains on.line) (λ x. Belongs (oldest log) (operation x)) belongs on.line (All-contains_itself on.line));
         all = λ o b. elim b [ inl q ↦ has_write o q.0 q.1 | inr r ↦ has_read o r ];
         ordered = in_order on.line on.respects;
         shows = shows_nearest 0 f on.line on.shows;

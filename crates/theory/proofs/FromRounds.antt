@@ -1,13 +1,13 @@
 -- The rounds of the operations of a past, from those of the model's calls. It ends in `from_rounds`.
 use Rattle.std.proofs.Common.{◌≡◌, ℕ, zero, suc, ◌+◌, ◌*◌, ◌<◌, ◌≤◌, ◌⊎◌, List, sym, ◌∙◌, subst, inl, inr, arith}
-use Rattle.std.specs.List.{ContainsAt as Has, AllByRecursion}
+use Rattle.std.specs.List.{Contains, AllByRecursion}
 use Rattle.std.proofs.lemmas.Option.{same_Some}
-use Rattle.std.proofs.ByRecursion.{all-has}
 use Rattle.orders.specs.Answer.{listed_as}
 use Rattle.settings.specs.declared.checked.Checked.{Checked}
 use Rattle.laws.specs.Entries.{Entry}
 use Rattle.laws.specs.Operations.{Begins, EndsAt}
 use Rattle.laws.specs.Laws.{rounds_of, messages_of, FewRounds}
+use Rattle.theory.proofs.Lists.{All-contains}
 use Rattle.theory.proofs.History.{Done, done}
 use Rattle.theory.proofs.Claims as model
 use Rattle.theory.proofs.Calls.{Faithful}
@@ -19,7 +19,7 @@ module _ (k : Checked) (small : told_size k ≤ k.replicas) (log : List Entry) (
   -- the model's call of an operation that ended
   record TheCall (c i j : ℕ) (e : Entry) : Type 0 where
     call : Done
-    has : Has (done log) call
+    has : Contains (done log) call
     client : call.client ≡ c
     begin : call.begin ≡ i
     end : call.end ≡ j
@@ -34,8 +34,8 @@ module _ (k : Checked) (small : told_size k ≤ k.replicas) (log : List Entry) (
       let r = faith.complete c i j (begins_log log c i b) (next_log log c i j x) in
       let d = r.0 in
       let s = said log d r.1 j x.entry r.4 (at_log log j x.entry x.at) in
-      let p = all-has (Spanned k (oldest log)) (done log) d (spanned k small log regular) r.1 in
-      let t : d.rounds ≡ d.sets = all-has (λ d. d.rounds ≡ d.sets) (done log) d few.told r.1 in
+      let p = All-contains (Spanned k (oldest log)) (done log) d (spanned k small log regular) r.1 in
+      let t : d.rounds ≡ d.sets = All-contains (λ d. d.rounds ≡ d.sets) (done log) d few.told r.1 in
       let place : (P : ℕ → ℕ → ℕ → Type 0) → P d.client d.begin d.end → P c i j = λ P h. subst (λ n. P c i n) r.4 (subst (λ n. P c n d.end) r.3 (subst (λ n. P n d.begin d.end) r.2 h)) in
       record {
         call = d;
@@ -49,8 +49,8 @@ module _ (k : Checked) (small : told_size k ≤ k.replicas) (log : List Entry) (
         messages = place (λ c i j. messages_of (oldest log) c i j + told_size k ≤ k.replicas + times d.rounds (told_size k)) (subst (λ n. messages_of (oldest log) d.client d.begin d.end + told_size k ≤ k.replicas + times n (told_size k)) (sym t) p.messages);
       }
 
-  one_or_two : (d : Done) → Has (done log) d → (d.rounds ≡ 1) ⊎ ((d.rounds ≡ 2) × (d.client ≡ 0 → ⊥))
-  one_or_two d h = all-has (λ d. (d.rounds ≡ 1) ⊎ ((d.rounds ≡ 2) × (d.client ≡ 0 → ⊥))) (done log) d few.few h
+  one_or_two : (d : Done) → Contains (done log) d → (d.rounds ≡ 1) ⊎ ((d.rounds ≡ 2) × (d.client ≡ 0 → ⊥))
+  one_or_two d h = All-contains (λ d. (d.rounds ≡ 1) ⊎ ((d.rounds ≡ 2) × (d.client ≡ 0 → ⊥))) (done log) d few.few h
 
   pub from_rounds : FewRounds k (oldest log)
   from_rounds =
@@ -68,8 +68,8 @@ module _ (k : Checked) (small : told_size k ≤ k.replicas) (log : List Entry) (
             let r = the_call o.client o.begin x.place (inr (x.client, x.start)) x.ends in
             let s = the_call p.client p.begin y.place (inr (y.client, y.start)) y.ends in
             let e : x.place ≡ b.0 = same_Some x.place b.0 (sym x.end ∙ b.1) in
-            let rest = all-has (λ y. AllByRecursion (λ x. x.rounds ≡ 2 → y.rounds ≡ 2 → x.version ≡ y.version → x.end < y.begin → ⊥) (done log)) (done log) s.call few.apart s.has in
-            all-has (λ x. x.rounds ≡ 2 → s.call.rounds ≡ 2 → x.version ≡ s.call.version → x.end < s.call.begin → ⊥) (done log) r.call rest r.has
+            let rest = All-contains (λ y. AllByRecursion (λ x. x.rounds ≡ 2 → y.rounds ≡ 2 → x.version ≡ y.version → x.end < y.begin → ⊥) (done log)) (done log) s.call few.apart s.has in
+            All-contains (λ x. x.rounds ≡ 2 → s.call.rounds ≡ 2 → x.version ≡ s.call.version → x.end < s.call.begin → ⊥) (done log) r.call rest r.has
             (sym r.rounds ∙ n) (sym s.rounds ∙ m) (r.version ∙ sym x.version ∙ v ∙ y.version ∙ sym s.version) (omega (arith, r.end, e, b.2, s.begin));
       }
     where

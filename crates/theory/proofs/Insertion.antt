@@ -1,11 +1,11 @@
 -- A line of calls, sorted by insertion: ends in `sorted_shows`, in a sorted line with one write to a version each read shows the nearest write before it.
 use Rattle.std.proofs.Common.{◌≡◌, ℕ, zero, suc, ◌+◌, ◌*◌, ◌<◌, ◌≤◌, cond, ltb, ◌⊎◌, List, [], ◌∷◌, ℤ, sym, refl, ap, ◌∙◌, subst, inl, inr, arith}
-use Rattle.std.proofs.ByRecursion.{All-weaker}
 use Rattle.std.proofs.lemmas.Bool.{cases_eq, cond_both, ltb-false, ltb-true}
-use Rattle.std.specs.List.{ContainsAt as Has, AllByRecursion}
+use Rattle.std.specs.List.{Contains, AllByRecursion}
+use Rattle.theory.proofs.Lists.{All-weaker, has_here, has_there, all_zip}
 use Rattle.theory.proofs.Sets.{Lacks, Distinct}
 use Rattle.theory.proofs.Line.{Op, Before, Respects, Shows, ends_of}
-use Rattle.theory.proofs.Members.{has_here, has_there, Among, all_among, all_zip}
+use Rattle.theory.proofs.Members.{Among, all_among}
 
 abbrev pub read_bit : ℕ → ℕ
 read_bit zero = 0
@@ -85,9 +85,9 @@ once_insert d (x ∷ xs) h new =
     cond_both (ltb (key d) (key x)) _ _ (λ (ys : List Op). Distinct (ends_of ys)) (λ e. (new, h))
     (λ e. (lacks_insert x.end d xs (λ q. new.0 (sym q)) h.0, once_insert d xs h.1 new.1))
 
-pub in_has : (x : Op) (xs : List Op) → Among x xs → Has xs x
+pub in_has : (x : Op) (xs : List Op) → Among x xs → Contains xs x
 in_has x [] i = absurd i
-in_has x (y ∷ ys) (inl e) = subst (Has (y ∷ ys)) (sym e) (has_here y ys)
+in_has x (y ∷ ys) (inl e) = subst (Contains (y ∷ ys)) (sym e) (has_here y ys)
 in_has x (y ∷ ys) (inr i) = has_there y x ys (in_has x ys i)
 
 -- ---- reads behind their writes

@@ -5,6 +5,7 @@ pub mod History
 pub mod Line
 pub mod Claims
 pub mod Calls
+pub mod Lists
 pub mod Members
 pub mod Overlap
 pub mod Marks

@@ -1,6 +1,6 @@
 -- One line of all calls of a log.
 use Rattle.std.proofs.Common.{◌≡◌, ℕ, ◌<◌, ◌≤◌, Bool, true, false, ◌⊎◌, List, [], ◌∷◌, map, length, ℤ}
-use Rattle.std.specs.List.{ContainsAt as Has, AllByRecursion}
+use Rattle.std.specs.List.{Contains, AllByRecursion}
 use Rattle.theory.proofs.Sets.{Distinct}
 use Rattle.theory.proofs.Cards.{Params, Fit}
 use Rattle.laws.specs.Entries.{Entry}
@@ -40,13 +40,13 @@ ends_of xs = map (λ x. x.end) xs
 -- an ended write, or read, of that version
 pub record Wrote (ds : List Done) (v : ℕ) : Type 0 where
   pub call : Done
-  pub has : Has ds call
+  pub has : Contains ds call
   pub writer : call.client ≡ 0
   pub version : call.version ≡ v
 
 pub record Showed (ds : List Done) (v : ℕ) : Type 0 where
   pub call : Done
-  pub has : Has ds call
+  pub has : Contains ds call
   pub reader : call.client ≡ 0 → ⊥
   pub version : call.version ≡ v
 
@@ -64,9 +64,9 @@ pub record Pending (log : List Entry) (x : Op) : Type 0 where
 pub record Line (f : ℤ) (log : List Entry) : Type 0 where
   pub line : List Op
   pub once : Distinct (ends_of line)
-  pub only : AllByRecursion (λ x. ((d : Done) × Has (done log) d × (x ≡ op d)) ⊎ Pending log x) line
-  pub ended : AllByRecursion (λ d. Has line (op d)) (done log)
-  pub pending : (Wrote (done log) (length (values log)) → ⊥) → 1 ≤ length (values log) → Showed (done log) (length (values log)) → (x : Op) × Has line x × Pending log x
+  pub only : AllByRecursion (λ x. ((d : Done) × Contains (done log) d × (x ≡ op d)) ⊎ Pending log x) line
+  pub ended : AllByRecursion (λ d. Contains line (op d)) (done log)
+  pub pending : (Wrote (done log) (length (values log)) → ⊥) → 1 ≤ length (values log) → Showed (done log) (length (values log)) → (x : Op) × Contains line x × Pending log x
   pub respects : Respects line
   pub given : AllByRecursion (λ x. x.value ≡ value_at (values log) f x.version) line
   pub shows : Shows 0 f line

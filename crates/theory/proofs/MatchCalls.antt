@@ -3,7 +3,6 @@ use Rattle.std.proofs.Common.{◌≡◌, ℕ, zero, suc, ◌+◌, ◌-◌, ◌*�
 use Rattle.std.specs.List.{AllByRecursion}
 use Rattle.std.specs.List.Sorted.{IsPermutation}
 use Rattle.std.proofs.lemmas.List.{map-append, length-replicate, length-set}
-use Rattle.std.proofs.ByRecursion.{All-append, All-push}
 use Rattle.std.proofs.lemmas.Bool.{ltb-false, leb-false, not-false, or_parts, cases_eq, ne_eqb, eq-eqb, cond_both, cond-true, cond-false}
 use Rattle.std.proofs.lemmas.Nat.{pow_below, mod_below}
 use Rattle.wire.specs.declared.message.Message.{Message}
@@ -32,6 +31,7 @@ use Rattle.client.specs.Start.{outgoing, raised}
 use Rattle.orders.specs.Order.{named}
 use Rattle.register.specs.World.{World, Called, sent_by}
 use Rattle.laws.specs.Entries.{Entry}
+use Rattle.theory.proofs.Lists.{All-append, All-push}
 use Rattle.theory.proofs.Members.{Among}
 use Rattle.theory.proofs.Cards.{Card}
 use Rattle.theory.proofs.Model as model

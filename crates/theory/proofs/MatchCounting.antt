@@ -2,8 +2,7 @@
 use Rattle.std.proofs.Common.{◌≡◌, ℕ, suc, ◌+◌, ◌<◌, true, false, not, eqb, ltb, List, [], ◌∷◌, ◌++◌, map, reverse, length, take, set, sym, refl, ap, ◌∙◌, subst, arith}
 use mathlib.Core.List.{reverse_aux, reverse_aux-append}
 use Rattle.std.specs.List.{AllByRecursion}
-use Rattle.std.proofs.lemmas.List.{take_more_set, length-set, map-append, reverse-reverse}
-use Rattle.std.proofs.ByRecursion.{All-push}
+use Rattle.std.proofs.lemmas.List.{take_more_set, length-set, map-append}
 use Rattle.std.proofs.lemmas.Bool.{and_parts, and_from, or_parts, or_from, ltb-true, lt-ltb, not-true, not_from_false, eqb-false, ne_eqb, cond-true}
 use Rattle.wire.specs.declared.message.Message.{Message}
 use Rattle.quorum.specs.declared.slip.Receipt.{Receipt}
@@ -12,19 +11,13 @@ use Rattle.quorum.specs.Tally.{from, adds}
 use Rattle.quorum.specs.Replies.{Receipts, Readings, with_receipt, with_reading}
 use Rattle.quorum.specs.Slip.{receipt_of, reading_of}
 use Rattle.quorum.proofs.From.{once_added}
+use Rattle.theory.proofs.Lists.{all_reverse, all_from_reverse, All-push}
 use Rattle.theory.proofs.Sets.{Lacks}
 use Rattle.theory.proofs.Cards.{Slip, replicas_of}
 use Rattle.theory.proofs.Model as model
 use Rattle.theory.proofs.Matching.{msg_of, reading_slip, ReceiptsMatch, ReadingsAre, ReadingsMatch}
 
 -- ---- who is counted
-
-all_reverse_onto : {A : Type 0} (P : A → Type 0) (xs ys : List A) → AllByRecursion P xs → AllByRecursion P ys → AllByRecursion P (reverse_aux xs ys)
-all_reverse_onto P [] ys a b = b
-all_reverse_onto P (x ∷ xs) ys a b = all_reverse_onto P xs (x ∷ ys) a.1 (a.0, b)
-
-pub all_reverse : {A : Type 0} (P : A → Type 0) (xs : List A) → AllByRecursion P xs → AllByRecursion P (reverse xs)
-all_reverse P xs a = all_reverse_onto P xs [] a tt
 
 pub lacks_from_not : {X : Type 0} (f : X → ℕ) (n : ℕ) (xs : List X) → from f n xs ≡ false → Lacks n (map f xs)
 lacks_from_not f n [] e = tt
@@ -51,8 +44,7 @@ module _ {X : Type 0} (f : X → ℕ) (slips : List X) (got : ℕ) (ss : List Sl
 
   pub adds_if_lacks : (s : X) → got < length slips → Lacks (f s) (replicas_of ss) → adds f slips got s ≡ true
   adds_if_lacks s l h =
-      let n : Lacks (f s) (reverse (reverse (map f (take got slips)))) = all_reverse (λ y. f s ≡ y → ⊥) (reverse (map f (take got slips))) (subst (Lacks (f s)) same h) in
-      let o : Lacks (f s) (map f (take got slips)) = subst (Lacks (f s)) (reverse-reverse (map f (take got slips))) n in
+      let o : Lacks (f s) (map f (take got slips)) = all_from_reverse (λ y. f s ≡ y → ⊥) (map f (take got slips)) (subst (Lacks (f s)) same h) in
       and_from (not (from f (f s) (take got slips))) (ltb got (length slips)) (not_from_false (from f (f s) (take got slips)) (not_from_lacks f (f s) (take got slips) o)) (lt-ltb got (length slips) l)
 
   pub one_more : (s : X) (t : Slip) → got < length slips → t.replica ≡ f s → replicas_of (t ∷ ss) ≡ reverse (map f (take (got + 1) (set slips got s)))

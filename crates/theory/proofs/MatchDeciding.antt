@@ -1,6 +1,6 @@
 -- Deciding a read: what it means that the model decides from the slips as the rules do from the readings. It ends in `AllJudged`.
 use Rattle.std.proofs.Common.{◌≡◌, ◌-◌, ◌<◌, true, false, List, length}
-use Rattle.std.specs.List.{ContainsAt as Has}
+use Rattle.std.specs.List.{Contains}
 use Rattle.quorum.specs.declared.slip.Reading.{Reading}
 use Rattle.quorum.specs.declared.decide.Verdict.{Verdict}
 use Rattle.quorum.specs.declared.decide.Verdict.TheVariants.{Highest, Due, Previous}
@@ -23,7 +23,7 @@ judgement k xs = decided k xs
 pub record Judged (k : Checked) (xs : List Reading) (ss : List Slip) : Type 0 where
   pub version : (judgement k xs).version ≡ highest ss
   pub best : Slip
-  pub has : Has ss best
+  pub has : Contains ss best
   pub top : best.card.version ≡ highest ss
   pub value : (judgement k xs).value ≡ best.card.value
   pub previous : (judgement k xs).previous ≡ best.card.previous

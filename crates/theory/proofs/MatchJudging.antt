@@ -2,8 +2,7 @@
 use Rattle.std.proofs.Common.{◌≡◌, ℕ, suc, ◌+◌, ◌-◌, ◌*◌, ◌<◌, ◌≤◌, max, Bool, true, false, cond, ◌||◌, eqb, ltb, leb, ◌⊎◌, List, [], ◌∷◌, map, length, fold, filter, sym, refl, ap, ◌∙◌, inl, inr, mul-le-mul_right, arith}
 use mathlib.Core.List.{reverse_aux}
 use lib.Bits.{bit_and, and_comm, and_le_r}
-use Rattle.std.specs.List.{ContainsAt as Has, AllByRecursion, best_of}
-use Rattle.std.proofs.ByRecursion.{all-has, all_kept_by, All-weaker, kept_by_passes, has_get_or, has_append_right}
+use Rattle.std.specs.List.{Contains, AllByRecursion, best_of}
 use Rattle.std.proofs.lemmas.List.{length-reverse, length-map}
 use Rattle.std.proofs.lemmas.Bool.{cases_lt, cond_both, both_ways, eqb-true, eqb-false, eq-eqb, leb-true, leb-false, le-leb, and_parts, and_from, or_cases, or_parts}
 use Rattle.quorum.specs.declared.slip.Reading.{Reading}
@@ -14,6 +13,7 @@ use Rattle.quorum.specs.Agree.{agreed}
 use Rattle.quorum.specs.Decide.{verdict_at, decided_at}
 use Rattle.quorum.proofs.Agreements.{SomeMaskAgreement, mask_from_agreed, agreed_from_mask}
 use Rattle.settings.specs.declared.checked.Checked.{Checked}
+use Rattle.theory.proofs.Lists.{All-contains, All-filter, All-weaker, filter_passes, has_here, has_there}
 use Rattle.theory.proofs.Sets.{Within}
 use Rattle.theory.proofs.Cards.{Params, Slip, highest, Several, Noted, Seen}
 use Rattle.theory.proofs.Cards as cards
@@ -35,18 +35,18 @@ highest_is xs ss h = sym (ap highest h.same ∙ highest_onto xs [])
 -- some slip has it
 pub record Top (ss : List Slip) : Type 0 where
   pub slip : Slip
-  pub has : Has ss slip
+  pub has : Contains ss slip
   pub top : slip.card.version ≡ highest ss
 
 top_more : (s : Slip) (ss : List Slip) → Top ss → Top (s ∷ ss)
 top_more s ss t =
     elim (cases_lt s.card.version (highest ss)) [
-      | inl l ↦ record { slip = t.slip; has = has_append_right (s ∷ []) ss t.slip t.has; top = omega (arith, t.top) }
-      | inr l ↦ record { slip = s; has = has_get_or (s ∷ ss) 0 s (omega arith); top = omega arith }
+      | inl l ↦ record { slip = t.slip; has = has_there s t.slip ss t.has; top = omega (arith, t.top) }
+      | inr l ↦ record { slip = s; has = has_here s ss; top = omega arith }
     ]
 
 top_of : (s : Slip) (ss : List Slip) → Top (s ∷ ss)
-top_of s [] = record { slip = s; has = has_get_or (s ∷ []) 0 s (omega arith); top = omega arith }
+top_of s [] = record { slip = s; has = has_here s []; top = omega arith }
 top_of s (t ∷ ss) = top_more s (t ∷ ss) (top_of t ss)
 
 -- ---- the reply of the lowest replica
@@ -113,10 +113,10 @@ module _ (k : Checked) (xs : List Reading) (ss : List Slip) (r : ReadingsAre xs 
       bytes : AllByRecursion (λ s. s.card.marks < 256) ss
       bytes = all_slips xs ss r (λ s. s.card.marks < 256) r.bytes
 
-      go : (ys : List Slip) → AllByRecursion (Has ss) ys → AllByRecursion (λ s. (s.card.version ≡ highest ss) × Within common s.card.marks) ys → 0 < length ys → common < 256
+      go : (ys : List Slip) → AllByRecursion (Contains ss) ys → AllByRecursion (λ s. (s.card.version ≡ highest ss) × Within common s.card.marks) ys → 0 < length ys → common < 256
       go [] f e n = absurd (omega arith)
       go (y ∷ ys) f e n =
-          let b : y.card.marks < 256 = all-has (λ s. s.card.marks < 256) ss y bytes f.0 in
+          let b : y.card.marks < 256 = All-contains (λ s. s.card.marks < 256) ss y bytes f.0 in
           let w : bit_and common y.card.marks ≡ common = e.0.1 in
           omega (arith, and_le_r common y.card.marks)
 
@@ -183,16 +183,16 @@ module _ (k : Checked) (xs : List Reading) (ss : List Slip) (r : ReadingsAre xs 
   -- ---- what is learnt
 
   -- the reply of the lowest replica at the highest version is one of the slips
-  lowest_is : 0 < length xs → Has ss (reading_slip (lowest_at h xs)) × ((lowest_at h xs).version ≡ highest ss)
+  lowest_is : 0 < length xs → Contains ss (reading_slip (lowest_at h xs)) × ((lowest_at h xs).version ≡ highest ss)
   lowest_is l =
       let t : Top ss = some_top ss (omega (arith, lengths)) in
       let found : AllByRecursion (λ (s : Slip). s.card.version ≡ highest ss → 0 < length (filter (λ s. eqb s.version h) xs)) ss =
       all_slips xs ss r (λ s. s.card.version ≡ highest ss → 0 < length (filter (λ s. eqb s.version h) xs))
       (All-weaker (λ (x : Reading). eqb x.version h ≡ true → 0 < length (filter (λ s. eqb s.version h) xs)) (λ (x : Reading). x.version ≡ highest ss → 0 < length (filter (λ s. eqb s.version h) xs))
       (λ x f e. f (eq-eqb x.version h (e ∙ sym level))) xs (kept_some (λ s. eqb s.version h) xs)) in
-      let some : 0 < length (filter (λ s. eqb s.version h) xs) = all-has (λ (s : Slip). s.card.version ≡ highest ss → 0 < length (filter (λ s. eqb s.version h) xs)) ss t.slip found t.has t.top in (
-        all_lowest (λ x. Has ss (reading_slip x)) (filter (λ s. eqb s.version h) xs) some (all_kept_by (λ s. eqb s.version h) (λ x. Has ss (reading_slip x)) xs (slips_have xs ss r)),
-        eqb-true (lowest_at h xs).version h (all_lowest (λ x. eqb x.version h ≡ true) (filter (λ s. eqb s.version h) xs) some (kept_by_passes (λ s. eqb s.version h) xs)) ∙ level,
+      let some : 0 < length (filter (λ s. eqb s.version h) xs) = All-contains (λ (s : Slip). s.card.version ≡ highest ss → 0 < length (filter (λ s. eqb s.version h) xs)) ss t.slip found t.has t.top in (
+        all_lowest (λ x. Contains ss (reading_slip x)) (filter (λ s. eqb s.version h) xs) some (All-filter (λ s. eqb s.version h) (λ x. Contains ss (reading_slip x)) xs (slips_have xs ss r)),
+        eqb-true (lowest_at h xs).version h (all_lowest (λ x. eqb x.version h ≡ true) (filter (λ s. eqb s.version h) xs) some (filter_passes (λ s. eqb s.version h) xs)) ∙ level,
       )
     where
       lengths : length ss ≡ length xs

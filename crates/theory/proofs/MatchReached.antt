@@ -3,7 +3,6 @@ use Rattle.std.proofs.Common.{◌≡◌, ℕ, List, ◌∷◌, map, sym, refl, s
 use Rattle.std.specs.List.{AllByRecursion}
 use Rattle.std.specs.List.Sorted.{IsPermutation}
 use Rattle.std.proofs.lemmas.List.Sorted.{IsPermutation-sym}
-use Rattle.std.proofs.ByRecursion.{all_shuffled}
 use Rattle.wire.specs.declared.message.Message.{Message}
 use Rattle.orders.specs.declared.order.Order.{Order}
 use Rattle.orders.specs.declared.answer.Refusal.{Refusal}
@@ -13,6 +12,7 @@ use Rattle.settings.specs.declared.checked.Checked.{Checked}
 use Rattle.register.specs.declared.register.Register.{Register}
 use Rattle.register.specs.World.{World}
 use Rattle.laws.specs.Entries.{Entry}
+use Rattle.theory.proofs.Lists.{All-permutation}
 use Rattle.theory.proofs.Model as model
 use Rattle.theory.proofs.Model.{entry, Same}
 use Rattle.theory.proofs.Matching.{params_of, msg_of, Proper, RegisterMatches, Matches}
@@ -42,7 +42,7 @@ pub reached_with : (k : Checked) (log : List Entry) (w : World) (r : Register) (
 reached_with k log w r ms b t e h s i p =
     reached_by k log w b t (subst (λ x. RegisterMatches k x b) (sym e) h)
     (same_then b.waiting (map msg_of ms) (map msg_of w.waiting) i (shuffled_same ms w.waiting (IsPermutation-sym w.waiting ms s)))
-    (all_shuffled (Proper k) ms w.waiting (IsPermutation-sym w.waiting ms s) p)
+    (All-permutation (Proper k) ms w.waiting (IsPermutation-sym w.waiting ms s) p)
 
 -- the waiting messages of a state that matches may stand in any order
 pub reordered : (k : Checked) (log : List Entry) (v : World) (b : model.State) (ms : List Message) → model.Trace (params_of k) k.initial log b → Matches k v b → IsPermutation v.waiting ms → model.Trace (params_of k) k.initial log (model.drops b (map msg_of ms))

@@ -4,7 +4,6 @@ use Rattle.std.specs.Option.{option_to_list}
 use Rattle.std.specs.List.{AllByRecursion}
 use Rattle.std.specs.List.Sorted.{IsPermutation}
 use Rattle.std.proofs.lemmas.List.Sorted.{IsPermutation-refl}
-use Rattle.std.proofs.ByRecursion.{all_shuffled}
 use Rattle.std.proofs.lemmas.Bool.{cases_lt}
 use Rattle.wire.specs.declared.message.Message.{Message}
 use Rattle.orders.specs.declared.order.Order.{Order}
@@ -15,6 +14,7 @@ use Rattle.settings.specs.declared.checked.Checked.{Checked}
 use Rattle.register.specs.Handle.{handled_reply}
 use Rattle.register.specs.World.{World, Carried, Starved, Answered, sent_in}
 use Rattle.laws.specs.Entries.{Entry}
+use Rattle.theory.proofs.Lists.{All-permutation}
 use Rattle.theory.proofs.Model as model
 use Rattle.theory.proofs.Model.{entry}
 use Rattle.theory.proofs.Matching.{params_of, msg_of, Proper, Matches}
@@ -28,7 +28,7 @@ use Rattle.theory.proofs.MatchDeciding.{AllJudged}
 module _ (judge : AllJudged) (k : Checked) (log : List Entry) (v w : World) (b : model.State) (t : model.Trace (params_of k) k.initial log b) (h : Matches k v b) where
   took : (m : Message) (rest : List Message) → IsPermutation v.waiting (m ∷ rest) → Taken k log v.register m rest
   took m rest s =
-      let p : AllByRecursion (Proper k) (m ∷ rest) = all_shuffled (Proper k) v.waiting (m ∷ rest) s h.proper in
+      let p : AllByRecursion (Proper k) (m ∷ rest) = All-permutation (Proper k) v.waiting (m ∷ rest) s h.proper in
       record {
         state = model.drops b (map msg_of (m ∷ rest));
         trace = reordered k log v b (m ∷ rest) t h s;

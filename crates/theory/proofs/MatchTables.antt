@@ -5,8 +5,8 @@ use Rattle.std.specs.List.Sorted.{IsPermutation}
 use Rattle.std.proofs.lemmas.List.{get_or-set_same, get_or-set_other}
 use Rattle.std.proofs.lemmas.Bool.{cases_Bool, eqb-true, eqb-false}
 use Rattle.std.proofs.lemmas.List.Sorted.{IsPermutation-sym}
-use Rattle.std.proofs.ByRecursion.{all_shuffled}
 use Rattle.wire.specs.declared.message.Message.{Message}
+use Rattle.theory.proofs.Lists.{All-weaker, All-permutation}
 use Rattle.theory.proofs.Members.{Among}
 use Rattle.theory.proofs.Model.{put, Msg, Same}
 use Rattle.theory.proofs.Matching.{msg_of}
@@ -58,13 +58,9 @@ in_cases x (y ∷ v) w (inl e) = inl (inl e)
 in_cases x (y ∷ v) w (inr h) =
     elim (in_cases x v w h) [ inl a ↦ inl (inr a) | inr a ↦ inr a ]
 
-all_in_more : (x : Msg) (w : List Msg) (ms : List Message) → AllByRecursion (λ m. Among (msg_of m) w) ms → AllByRecursion (λ m. Among (msg_of m) (x ∷ w)) ms
-all_in_more x w [] h = tt
-all_in_more x w (m ∷ ms) h = (inr h.0, all_in_more x w ms h.1)
-
 pub all_in_itself : (ms : List Message) → AllByRecursion (λ m. Among (msg_of m) (map msg_of ms)) ms
 all_in_itself [] = tt
-all_in_itself (m ∷ ms) = (inl refl, all_in_more (msg_of m) (map msg_of ms) ms (all_in_itself ms))
+all_in_itself (m ∷ ms) = (inl refl, All-weaker _ _ (λ n i. inr i) ms (all_in_itself ms))
 
 pub in_from_all : (ms : List Message) (w : List Msg) → AllByRecursion (λ m. Among (msg_of m) w) ms → (x : Msg) → Among x (map msg_of ms) → Among x w
 in_from_all [] w h x i = elim i [ ]
@@ -80,6 +76,6 @@ same_then u v w s t x = (λ h. (t x).0 ((s x).0 h), λ h. (s x).1 ((t x).1 h))
 -- lists of messages that are the same up to order are the same to the model
 pub shuffled_same : (ms ns : List Message) → IsPermutation ms ns → Same (map msg_of ms) (map msg_of ns)
 shuffled_same ms ns s x = (
-  in_from_all ms (map msg_of ns) (all_shuffled (λ m. Among (msg_of m) (map msg_of ns)) ns ms (IsPermutation-sym ms ns s) (all_in_itself ns)) x,
-  in_from_all ns (map msg_of ms) (all_shuffled (λ m. Among (msg_of m) (map msg_of ms)) ms ns s (all_in_itself ms)) x,
+  in_from_all ms (map msg_of ns) (All-permutation (λ m. Among (msg_of m) (map msg_of ns)) ns ms (IsPermutation-sym ms ns s) (all_in_itself ns)) x,
+  in_from_all ns (map msg_of ms) (All-permutation (λ m. Among (msg_of m) (map msg_of ms)) ms ns s (all_in_itself ms)) x,
 )

@@ -1,7 +1,7 @@
 -- What stands in a list, and lists of numbers as sets: distinct numbers that all stand in another list are no more than it has (`no_longer`).
-use Rattle.std.proofs.Common.{◌≡◌, ℕ, suc, ◌≤◌, cond, eqb, ◌⊎◌, List, [], ◌∷◌, length, sym, refl, ◌∙◌, subst, inl, inr, arith}
+use Rattle.std.proofs.Common.{◌≡◌, ℕ, suc, ◌≤◌, cond, eqb, ◌⊎◌, List, [], ◌∷◌, length, sym, ◌∙◌, subst, inl, inr, arith}
 use Rattle.std.proofs.lemmas.Bool.{cases_eq, cond_both, eqb-false, eqb-true}
-use Rattle.std.specs.List.{ContainsAt as Has, AllByRecursion}
+use Rattle.std.specs.List.{AllByRecursion}
 use Rattle.theory.proofs.Sets.{Lacks, Distinct}
 
 -- n stands in the list
@@ -61,18 +61,3 @@ no_longer (x ∷ xs) ys d h =
     let ih : length xs ≤ length (without x ys) = no_longer xs (without x ys) d.1 (all_kept_without x ys xs d.0 h.1) in
     let less : suc (length (without x ys)) ≤ length ys = without_less x ys h.0 in
     omega arith
-
--- ---- places in a list of anything
-
-pub has_here : {X : Type 0} (x : X) (xs : List X) → Has (x ∷ xs) x
-has_here x xs = (0, omega arith, λ d. refl)
-
-pub has_there : {X : Type 0} (x y : X) (xs : List X) → Has xs y → Has (x ∷ xs) y
-has_there x y xs h = (suc h.0, omega (arith, h.1), h.2)
-
-pub all_zip : {X : Type 0} (P Q R : X → Type 0) → ((x : X) → P x → Q x → R x) → (xs : List X) → AllByRecursion P xs → AllByRecursion Q xs → AllByRecursion R xs
-all_zip P Q R f [] p q = tt
-all_zip P Q R f (x ∷ xs) p q = (f x p.0 q.0, all_zip P Q R f xs p.1 q.1)
-
-pub all_two : {X : Type 0} (P Q : X → Type 0) (xs : List X) → AllByRecursion P xs → AllByRecursion Q xs → AllByRecursion (λ x. P x × Q x) xs
-all_two P Q = all_zip P Q (λ x. P x × Q x) (λ x p q. (p, q))

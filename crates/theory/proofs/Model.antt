@@ -8,7 +8,7 @@ use Rattle.orders.specs.declared.answer.Answer.{Answer}
 use Rattle.orders.specs.declared.answer.Answer.TheVariants.{Accepted, Replied, Counted, Ended, BecameDue}
 use Rattle.orders.specs.Answer.{listed_as}
 use Rattle.laws.specs.Entries.{Entry}
-use Rattle.std.specs.List.{ContainsAt as Has}
+use Rattle.std.specs.List.{Contains}
 use Rattle.theory.proofs.Members.{Among}
 use Rattle.theory.proofs.Sets.{Lacks}
 use Rattle.theory.proofs.Cards.{Params, Card, Slip, replicas_of, highest, Decision}
@@ -130,7 +130,7 @@ pub record Learnt (ss : List Slip) (x y : Client) : Type 0 where
   pub round : y.round ≡ x.round
   pub version : y.version ≡ highest ss
   pub best : Slip
-  pub has : Has ss best
+  pub has : Contains ss best
   pub top : best.card.version ≡ highest ss
   pub value : y.value ≡ best.card.value
   pub previous : y.previous ≡ best.card.previous

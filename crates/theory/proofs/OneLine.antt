@@ -1,15 +1,15 @@
 -- All calls of a past stand in one line: ends in `linearizable`.
 use Rattle.std.proofs.Common.{◌≡◌, ℕ, suc, ◌<◌, ◌≤◌, false, ◌⊎◌, List, [], ◌∷◌, length, ℤ, sym, refl, ap, ◌∙◌, subst, inl, inr, arith}
-use Rattle.std.proofs.ByRecursion.{All-map, all-has, all_has_itself, All-weaker}
 use Rattle.std.proofs.lemmas.Bool.{cases_eq, cases_lt, cond-false, ne_eqb, false≢true}
-use Rattle.std.specs.List.{ContainsAt as Has, AllByRecursion}
+use Rattle.std.specs.List.{Contains, AllByRecursion}
 use Rattle.laws.specs.Entries.{Entry}
+use Rattle.theory.proofs.Lists.{All-map, All-contains, All-contains_itself, All-weaker, has_here, has_there}
 use Rattle.theory.proofs.Sets.{Distinct}
 use Rattle.theory.proofs.Cards.{Params, Fit}
 use Rattle.theory.proofs.Model.{writes, Phase, idle, due, awaiting, State, Trace}
 use Rattle.theory.proofs.History.{Done, values, value_at, begun, spent, done, Ordered}
 use Rattle.theory.proofs.Line.{Op, op, Before, Respects, ends_of, Wrote, Showed, Pending, Line, Linearizable}
-use Rattle.theory.proofs.Members.{has_here, has_there, Among}
+use Rattle.theory.proofs.Members.{Among}
 use Rattle.theory.proofs.Safety.{PhaseFine}
 use Rattle.theory.proofs.Orderly.{OpenFine, EndedFine, OneWriteEach, NewestFirst, wrote_more}
 use Rattle.theory.proofs.Invariant.{Invariant, invariant}
@@ -71,10 +71,10 @@ wrote? (d ∷ ds) v =
   where
     more : Wrote ds v ⊎ (Wrote ds v → ⊥) → (d.client ≡ 0 → d.version ≡ v → ⊥) → Wrote (d ∷ ds) v ⊎ (Wrote (d ∷ ds) v → ⊥)
     more (inl w) n = inl (wrote_more d ds v w)
-    more (inr w) n = inr (λ x. all-has (λ y. y.client ≡ 0 → y.version ≡ v → ⊥) (d ∷ ds) x.call (n, none) x.has x.writer x.version)
+    more (inr w) n = inr (λ x. All-contains (λ y. y.client ≡ 0 → y.version ≡ v → ⊥) (d ∷ ds) x.call (n, none) x.has x.writer x.version)
       where
         none : AllByRecursion (λ y. y.client ≡ 0 → y.version ≡ v → ⊥) ds
-        none = All-weaker (Has ds) _ (λ y h e q. w (record { call = y; has = h; writer = e; version = q })) ds (all_has_itself ds)
+        none = All-weaker (Contains ds) _ (λ y h e q. w (record { call = y; has = h; writer = e; version = q })) ds (All-contains_itself ds)
 
 showed? : (ds : List Done) (v : ℕ) → Showed ds v ⊎ (Showed ds v → ⊥)
 showed? [] v = inr (λ w. let h = w.has.1 in omega arith)
@@ -86,10 +86,10 @@ showed? (d ∷ ds) v =
   where
     more : Showed ds v ⊎ (Showed ds v → ⊥) → ((d.client ≡ 0 → ⊥) → d.version ≡ v → ⊥) → Showed (d ∷ ds) v ⊎ (Showed (d ∷ ds) v → ⊥)
     more (inl w) n = inl (record { call = w.call; has = has_there d w.call ds w.has; reader = w.reader; version = w.version })
-    more (inr w) n = inr (λ x. all-has (λ y. (y.client ≡ 0 → ⊥) → y.version ≡ v → ⊥) (d ∷ ds) x.call (n, none) x.has x.reader x.version)
+    more (inr w) n = inr (λ x. All-contains (λ y. (y.client ≡ 0 → ⊥) → y.version ≡ v → ⊥) (d ∷ ds) x.call (n, none) x.has x.reader x.version)
       where
         none : AllByRecursion (λ y. (y.client ≡ 0 → ⊥) → y.version ≡ v → ⊥) ds
-        none = All-weaker (Has ds) _ (λ y h e q. w (record { call = y; has = h; reader = e; version = q })) ds (all_has_itself ds)
+        none = All-weaker (Contains ds) _ (λ y h e q. w (record { call = y; has = h; reader = e; version = q })) ds (All-contains_itself ds)
 
 value_zero : (xs : List ℤ) (f : ℤ) → value_at xs f 0 ≡ f
 value_zero [] f = refl
@@ -99,8 +99,8 @@ module _ (g : Params) (fit : Fit g) (f : ℤ) (log : List Entry) (b : State) (p 
   u : Invariant g f log b
   u = invariant g fit f log b p
 
-  ended_fine : (d : Done) → Has (done log) d → EndedFine g (values log) f b.replicas (length log) d
-  ended_fine d h = all-has (EndedFine g (values log) f b.replicas (length log)) (done log) d u.calls.ended h
+  ended_fine : (d : Done) → Contains (done log) d → EndedFine g (values log) f b.replicas (length log) d
+  ended_fine d h = All-contains (EndedFine g (values log) f b.replicas (length log)) (done log) d u.calls.ended h
 
   ends : AllByRecursion (λ d. d.begin ≤ d.end) (done log)
   ends = All-weaker _ (λ d. d.begin ≤ d.end) (λ d q. q.clock.1) (done log) u.calls.ended
@@ -113,7 +113,7 @@ module _ (g : Params) (fit : Fit g) (f : ℤ) (log : List Entry) (b : State) (p 
   Backed line x = (x.client ≡ 0 → ⊥) → ((x.version ≡ 0) × (x.value ≡ f)) ⊎ HasWrite x.version x.value line
 
   -- The write of a read that shows an ended write is in the line.
-  from_done : (line : List Op) → ((d : Done) → Has (done log) d → Among (op d) line) → (d : Done) → Has (done log) d → Wrote (done log) d.version → HasWrite d.version d.value line
+  from_done : (line : List Op) → ((d : Done) → Contains (done log) d → Among (op d) line) → (d : Done) → Contains (done log) d → Wrote (done log) d.version → HasWrite d.version d.value line
   from_done line has d h w =
       let mine = ended_fine d h in
       let its = ended_fine w.call w.has in
@@ -126,9 +126,9 @@ module _ (g : Params) (fit : Fit g) (f : ℤ) (log : List Entry) (b : State) (p 
       }
 
   -- Each ended read is backed, if the line has the ended calls and the last write when that is shown and has not ended.
-  back : (line : List Op) → ((d : Done) → Has (done log) d → Among (op d) line)
-      → ((d : Done) → Has (done log) d → (d.client ≡ 0 → ⊥) → d.version ≡ length (values log) → 1 ≤ d.version → (Wrote (done log) d.version → ⊥) → HasWrite d.version d.value line)
-      → (d : Done) → Has (done log) d → Backed line (op d)
+  back : (line : List Op) → ((d : Done) → Contains (done log) d → Among (op d) line)
+      → ((d : Done) → Contains (done log) d → (d.client ≡ 0 → ⊥) → d.version ≡ length (values log) → 1 ≤ d.version → (Wrote (done log) d.version → ⊥) → HasWrite d.version d.value line)
+      → (d : Done) → Contains (done log) d → Backed line (op d)
   unfolding Backed
   back line has last d h reader =
       let mine = ended_fine d h in
@@ -140,13 +140,13 @@ module _ (g : Params) (fit : Fit g) (f : ℤ) (log : List Entry) (b : State) (p 
         ])
       ]
 
-  all_ops : (P : Op → Type 0) → ((d : Done) → Has (done log) d → P (op d)) → AllByRecursion P (line_of (done log))
-  all_ops P h = all_line P (done log) (All-weaker (Has (done log)) (λ d. P (op d)) h (done log) (all_has_itself (done log)))
+  all_ops : (P : Op → Type 0) → ((d : Done) → Contains (done log) d → P (op d)) → AllByRecursion P (line_of (done log))
+  all_ops P h = all_line P (done log) (All-weaker (Contains (done log)) (λ d. P (op d)) h (done log) (All-contains_itself (done log)))
 
-  has_ended : (d : Done) → Has (done log) d → Among (op d) (line_of (done log))
-  has_ended d h = all-has (λ d. Among (op d) (line_of (done log))) (done log) d whole.members h
+  has_ended : (d : Done) → Contains (done log) d → Among (op d) (line_of (done log))
+  has_ended d h = All-contains (λ d. Among (op d) (line_of (done log))) (done log) d whole.members h
 
-  write_not_initial : (d : Done) → Has (done log) d → d.client ≡ 0 → 0 < d.version
+  write_not_initial : (d : Done) → Contains (done log) d → d.client ≡ 0 → 0 < d.version
   write_not_initial d h e = (ended_fine d h).first e
 
   -- The line, when no write is shown that has not ended.
@@ -172,7 +172,7 @@ module _ (g : Params) (fit : Fit g) (f : ℤ) (log : List Entry) (b : State) (p 
     the_pending = record { client = 0; begin = begun log 0; ended = false; end = length log; version = length (values log); value = value_at (values log) f (length (values log)) }
 
     -- What ended before the last write began is below it.
-    writing_now : (d : Done) → Has (done log) d → d.end < begun log 0 → d.version < length (values log)
+    writing_now : (d : Done) → Contains (done log) d → d.end < begun log 0 → d.version < length (values log)
     writing_now d h = go (b.clients 0).phase refl
       where
         go : (q : Phase) → (b.clients 0).phase ≡ q → d.end < begun log 0 → d.version < length (values log)
@@ -182,7 +182,7 @@ module _ (g : Params) (fit : Fit g) (f : ℤ) (log : List Entry) (b : State) (p 
             let got = subst (PhaseFine g (values log) f b.replicas 0 (b.clients 0).version (u.snapshot 0)) e (u.safe.clients 0).phase in
             let busy : (b.clients 0).phase ≡ awaiting writes ss = e ∙ ap (λ j. awaiting j ss) (got.role.1 refl) in
             let mine = subst (OpenFine g (begun log 0) (spent log 0) (u.snapshot 0) (done log) (b.clients 0).version) busy (u.calls.running 0) in
-            let lt : d.version < (b.clients 0).version = all-has (λ x. x.end < begun log 0 → x.version < (b.clients 0).version) (done log) d mine.1 h early in
+            let lt : d.version < (b.clients 0).version = All-contains (λ x. x.end < begun log 0 → x.version < (b.clients 0).version) (done log) d mine.1 h early in
             omega (arith, ((u.safe.clients 0).writer refl).0)
 
     pending_line : Line f log

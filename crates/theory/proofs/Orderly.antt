@@ -1,12 +1,11 @@
 -- What every past keeps of the calls that ended and of those under way: ends in the record `Orderly` and, for each kind of entry, a lemma that keeps it.
 use Rattle.std.proofs.Common.{◌≡◌, ℕ, suc, ◌<◌, ◌≤◌, ◌⊎◌, List, [], ◌∷◌, length, ℤ, sym, refl, ◌∙◌, subst, arith}
-use Rattle.std.proofs.ByRecursion.{All-weaker}
 use Rattle.std.specs.List.{AllByRecursion}
+use Rattle.theory.proofs.Lists.{All-weaker, has_here, has_there, all_two}
 use Rattle.theory.proofs.Cards.{Params, Card, Slip, Later}
 use Rattle.theory.proofs.Model.{put, writes, reads, tells, Phase, idle, due, awaiting, Client, sets}
 use Rattle.theory.proofs.History.{Done, value_at, Ordered}
 use Rattle.theory.proofs.Line.{Wrote}
-use Rattle.theory.proofs.Members.{has_here, has_there, all_two}
 use Rattle.theory.proofs.Tables.{put_case, put_three, put_four}
 use Rattle.theory.proofs.FineCards.{value_stays}
 use Rattle.theory.proofs.Established.{Established, Posted, established_stays, posted_stays}

@@ -1,10 +1,10 @@
 -- Large sets of replicas overlap: ends in `many_both`, the counting lemma that everything about quorums stands on.
 use Rattle.std.proofs.Common.{◌≡◌, ℕ, zero, suc, ◌+◌, ◌<◌, ◌≤◌, Bool, true, false, not, ◌||◌, eqb, List, [], ◌∷◌, ◌++◌, length, filter, sym, refl, ap, subst, inl, inr, arith, length-append}
-use Rattle.std.proofs.ByRecursion.{All-append, all_kept_by, All-weaker, kept_by_passes}
 use Rattle.std.proofs.lemmas.Bool.{cases_Bool, cases_eq, cond_both, eqb-false, eqb-true, not-true, or_cases, or_parts}
 use Rattle.std.specs.List.{AllByRecursion}
+use Rattle.theory.proofs.Lists.{All-append, All-filter, All-weaker, filter_passes, all_two}
 use Rattle.theory.proofs.Sets.{Lacks, Distinct, Many}
-use Rattle.theory.proofs.Members.{Among, no_longer, all_two}
+use Rattle.theory.proofs.Members.{Among, no_longer}
 
 -- the numbers below n
 abbrev up_to : ℕ → List ℕ
@@ -42,7 +42,7 @@ distinct_kept : (p : ℕ → Bool) (xs : List ℕ) → Distinct xs → Distinct 
 distinct_kept p [] h = tt
 distinct_kept p (x ∷ xs) h =
     cond_both (p x) (x ∷ filter p xs) (filter p xs) Distinct
-    (λ e. (all_kept_by p _ xs h.0, distinct_kept p xs h.1)) (λ e. distinct_kept p xs h.1)
+    (λ e. (All-filter p _ xs h.0, distinct_kept p xs h.1)) (λ e. distinct_kept p xs h.1)
 
 distinct_append : (xs ys : List ℕ) → Distinct xs → Distinct ys → AllByRecursion (λ x. Lacks x ys) xs → Distinct (xs ++ ys)
 distinct_append [] ys h k a = k
@@ -63,19 +63,19 @@ many_both s a b m P Q x y h =
     let inside = filter (λ i. listed i y.places) x.places in
     let outside = filter (λ i. not (listed i y.places)) x.places in
     let apart : AllByRecursion (λ i. Lacks i y.places) outside =
-    All-weaker _ _ (λ i e. unlisted_lacks i y.places (not-true _ e)) outside (kept_by_passes (λ i. not (listed i y.places)) x.places) in
+    All-weaker _ _ (λ i e. unlisted_lacks i y.places (not-true _ e)) outside (filter_passes (λ i. not (listed i y.places)) x.places) in
     let d : Distinct (outside ++ y.places) = distinct_append outside y.places (distinct_kept _ x.places x.distinct) y.distinct apart in
     let few : length (outside ++ y.places) ≤ s =
-    distinct_below s (outside ++ y.places) d (All-append _ outside y.places (all_kept_by _ _ x.places x.below) y.below) in
+    distinct_below s (outside ++ y.places) d (All-append _ outside y.places (All-filter _ _ x.places x.below) y.below) in
     let k : length x.places ≡ length inside + length outside = kept_split (λ i. listed i y.places) x.places in
     let la : length (outside ++ y.places) ≡ length outside + length y.places = length-append outside y.places in
     record {
       places = inside;
       distinct = distinct_kept _ x.places x.distinct;
-      below = all_kept_by _ _ x.places x.below;
+      below = All-filter _ _ x.places x.below;
       enough = omega (arith, x.enough, y.enough);
-      each = all_two P Q inside (all_kept_by _ P x.places x.each)
-          (All-weaker _ Q (λ i e. listed_all Q i y.places y.each e) inside (kept_by_passes (λ i. listed i y.places) x.places));
+      each = all_two P Q inside (All-filter _ P x.places x.each)
+          (All-weaker _ Q (λ i e. listed_all Q i y.places y.each e) inside (filter_passes (λ i. listed i y.places) x.places));
     }
 
 pub many_weaker : (s m : ℕ) (P Q : ℕ → Type 0) → ((i : ℕ) → P i → Q i) → Many s m P → Many s m Q

@@ -1,6 +1,6 @@
 -- Reads are semifast: ends in `semi_fast`.
 use Rattle.std.proofs.Common.{arith}
-use Rattle.std.proofs.ByRecursion.{All-weaker}
+use Rattle.theory.proofs.Lists.{All-weaker}
 use Rattle.theory.proofs.History.{done}
 use Rattle.theory.proofs.Claims.{SemiFast}
 use Rattle.theory.proofs.Invariant.{invariant}

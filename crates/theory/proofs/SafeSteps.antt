@@ -1,9 +1,9 @@
 -- Each change of a state keeps `Safe`: ends in `safe_wrote`, the last of seven such lemmas.
 use Rattle.std.proofs.Common.{◌≡◌, ℕ, zero, suc, ◌+◌, ◌-◌, ◌*◌, ◌<◌, ◌≤◌, false, eqb, ◌⊎◌, List, [], ◌∷◌, ◌++◌, length, ℤ, sym, refl, ap, ◌∙◌, subst, inl, inr, arith}
-use Rattle.std.proofs.ByRecursion.{All-map, All-append, all-has, All-weaker}
 use Rattle.std.proofs.lemmas.List.{length-map}
 use Rattle.std.proofs.lemmas.Bool.{cases_lt, cond-true, eq-eqb, true≢false, false≢true}
 use Rattle.std.specs.List.{AllByRecursion}
+use Rattle.theory.proofs.Lists.{All-map, All-append, All-contains, All-weaker}
 use Rattle.theory.proofs.Sets.{Within, Many}
 use Rattle.theory.proofs.Cards.{Params, Fit, Card, Slip, replicas_of, Ahead, Later}
 use Rattle.theory.proofs.Model.{put, Kind, writes, reads, tells, Msg, Phase, idle, due, awaiting, Client, State, after, sent, carried, Takes, sets, drops, delivers, phased, writing, asking, Learnt, Counting, slip}
@@ -288,7 +288,7 @@ module _ (g : Params) (xs : List ℤ) (f : ℤ) where
   safe_learnt b old m w ss y t n le ph s =
       let cm = gathered_more b old m w reads ss t n s in
       let reader : m.client ≡ 0 → ⊥ = λ e. reads_not_writes (cm.role.1 e) in
-      let best : CardFine g xs f le.best.card = all-has (λ s. CardFine g xs f s.card) (slip m ∷ ss) le.best cm.fine le.has in
+      let best : CardFine g xs f le.best.card = All-contains (λ s. CardFine g xs f s.card) (slip m ∷ ss) le.best cm.fine le.has in
       let same : le.best.card.version ≡ y.version = le.top ∙ sym le.version in
       safe_moved b old m w y m.client t le.round (λ j a. absurd (quiet y ph j a))
       (record {

@@ -1,7 +1,6 @@
 -- What each entry of a past puts into the channel: a whole set of the client's own messages where a write, read or tell is accepted, else none. It ends in regular.
 use Rattle.std.proofs.Common.{◌≡◌, ℕ, zero, suc, ◌+◌, ◌*◌, ◌≤◌, Bool, true, false, cond, ◌&&◌, eqb, leb, List, [], Some, None, count_by, Option, sym, refl, ap, ◌∙◌, subst, inl, inr, arith}
 use Rattle.std.specs.List.{AllByRecursion}
-use Rattle.std.proofs.ByRecursion.{All-push}
 use Rattle.std.proofs.lemmas.List.Sums.{sum_by_push}
 use Rattle.std.proofs.lemmas.Bool.{cases_Bool, cond_both, lt-leb, and_left, or_parts, ltb-false, eqb-true, eqb-false, eq-eqb, ne_eqb}
 use Rattle.std.specs.Option.{option_to_list}
@@ -31,6 +30,7 @@ use Rattle.laws.specs.Entries.{Entry}
 use Rattle.register.specs.Past.{Step, Past, start, more}
 use Rattle.laws.specs.Operations.{code}
 use Rattle.laws.specs.Laws.{own_messages}
+use Rattle.theory.proofs.Lists.{All-push}
 use Rattle.theory.proofs.Matching.{AllTraced}
 use Rattle.theory.proofs.Places.{NoReadOfWriter}
 

@@ -2,9 +2,9 @@
 use Rattle.std.proofs.Common.{◌≡◌, ℕ, ◌≤◌, max, Bool, true, List, [], ◌∷◌, map, length, filter, sym, refl, subst, inl, inr, arith}
 use mathlib.Core.List.{map-map}
 use Rattle.std.proofs.lemmas.List.{length-map}
-use Rattle.std.proofs.ByRecursion.{all-has, All-map, all_kept_by, All-weaker, kept_by_passes}
 use Rattle.std.proofs.lemmas.Bool.{cond_both, both_ways}
-use Rattle.std.specs.List.{ContainsAt as Has, AllByRecursion}
+use Rattle.std.specs.List.{Contains, AllByRecursion}
+use Rattle.theory.proofs.Lists.{All-contains, All-map, All-filter, All-weaker, filter_passes}
 use Rattle.theory.proofs.Sets.{Lacks, Distinct, Many}
 use Rattle.theory.proofs.Cards.{Card, Slip, replicas_of, highest, Several}
 use Rattle.theory.proofs.Members.{Among, no_longer}
@@ -23,9 +23,9 @@ pub several_with : (ss : List Slip) (n : ℕ) (P Q : Card → Type 0) → AllByR
 several_with ss n P Q a x =
     record { chosen = x.chosen; distinct = x.distinct; from = x.from; enough = x.enough; each = go x.chosen x.from x.each }
   where
-    go : (xs : List Slip) → AllByRecursion (Has ss) xs → AllByRecursion (λ s. P s.card) xs → AllByRecursion (λ s. P s.card × Q s.card) xs
+    go : (xs : List Slip) → AllByRecursion (Contains ss) xs → AllByRecursion (λ s. P s.card) xs → AllByRecursion (λ s. P s.card × Q s.card) xs
     go [] f p = tt
-    go (y ∷ ys) f p = ((p.0, all-has (λ s. Q s.card) ss y a f.0), go ys f.1 p.1)
+    go (y ∷ ys) f p = ((p.0, All-contains (λ s. Q s.card) ss y a f.0), go ys f.1 p.1)
 
 pub some_card : (ss : List Slip) (n : ℕ) (P : Card → Type 0) → 1 ≤ n → Several ss n P → (c : Card) × P c
 some_card ss n P h x = go x.chosen x.each (omega (arith, x.enough))
@@ -38,14 +38,14 @@ some_card ss n P h x = go x.chosen x.each (omega (arith, x.enough))
 
 -- replica i sent a slip with such a card
 abbrev Sent : List Slip → (Card → Type 0) → ℕ → Type 0
-Sent ss P i = (s : Slip) × Has ss s × (s.replica ≡ i) × P s.card
+Sent ss P i = (s : Slip) × Contains ss s × (s.replica ≡ i) × P s.card
 
 -- a slip for each of a list of replicas
 record Taken (ss : List Slip) (P : Card → Type 0) (places : List ℕ) : Type 0 where
   chosen : List Slip
   replicas : replicas_of chosen ≡ places
   size : length chosen ≡ length places
-  from : AllByRecursion (Has ss) chosen
+  from : AllByRecursion (Contains ss) chosen
   each : AllByRecursion (λ s. P s.card) chosen
 
 take_slips : (ss : List Slip) (P : Card → Type 0) (places : List ℕ) → AllByRecursion (Sent ss P) places → Taken ss P places
@@ -77,14 +77,14 @@ module _ {X : Type 0} (slip : X → Slip) (p : X → Bool) (P : Card → Type 0)
       cond_both (p x) (x ∷ filter p xs) (filter p xs) (λ (ys : List X). Distinct (map sender ys)) (λ e. (lacks_kept (sender x) xs h.0, distinct_kept xs h.1)) (λ e. distinct_kept xs h.1)
 
   -- As many slips of distinct replicas as pass the test are several.
-  pub tallied_several : ((x : X) → p x ≡ true → P (slip x).card) → (ss : List Slip) (xs : List X) (m : ℕ) → AllByRecursion (λ x. Has ss (slip x)) xs → Distinct (map sender xs) → m ≤ length (filter p xs) → Several ss m P
+  pub tallied_several : ((x : X) → p x ≡ true → P (slip x).card) → (ss : List Slip) (xs : List X) (m : ℕ) → AllByRecursion (λ x. Contains ss (slip x)) xs → Distinct (map sender xs) → m ≤ length (filter p xs) → Several ss m P
   tallied_several right ss xs m has d h =
       record {
         chosen = map slip (filter p xs);
         distinct = subst Distinct (sym (map-map (λ (s : Slip). s.replica) slip (filter p xs))) (distinct_kept xs d);
-        from = All-map (Has ss) slip (filter p xs) (all_kept_by p (λ x. Has ss (slip x)) xs has);
+        from = All-map (Contains ss) slip (filter p xs) (All-filter p (λ x. Contains ss (slip x)) xs has);
         enough = omega (arith, h, length-map (filter p xs) slip);
-        each = All-map (λ s. P s.card) slip (filter p xs) (All-weaker (λ x. p x ≡ true) (λ x. P (slip x).card) right (filter p xs) (kept_by_passes p xs));
+        each = All-map (λ s. P s.card) slip (filter p xs) (All-weaker (λ x. p x ≡ true) (λ x. P (slip x).card) right (filter p xs) (filter_passes p xs));
       }
 
   passes_kept : (xs : List X) → AllByRecursion (λ x. p x ≡ true → Among (sender x) (map sender (filter p xs))) xs
@@ -107,6 +107,6 @@ module _ {X : Type 0} (slip : X → Slip) (p : X → Bool) (P : Card → Type 0)
           every (λ s. P s.card → Among s.replica (map sender (filter p xs)))
           (All-weaker (λ x. p x ≡ true → Among (sender x) (map sender (filter p xs))) (λ x. P (slip x).card → Among (sender x) (map sender (filter p xs))) (λ x h c. h (whole x c)) xs (passes_kept xs))
 
-      go : (ys : List Slip) → AllByRecursion (Has ss) ys → AllByRecursion (λ s. P s.card) ys → AllByRecursion (λ s. Among s.replica (map sender (filter p xs))) ys
+      go : (ys : List Slip) → AllByRecursion (Contains ss) ys → AllByRecursion (λ s. P s.card) ys → AllByRecursion (λ s. Among s.replica (map sender (filter p xs))) ys
       go [] f e = tt
-      go (y ∷ ys) f e = (all-has (λ s. P s.card → Among s.replica (map sender (filter p xs))) ss y found f.0 e.0, go ys f.1 e.1)
+      go (y ∷ ys) f e = (All-contains (λ s. P s.card → Among s.replica (map sender (filter p xs))) ss y found f.0 e.0, go ys f.1 e.1)

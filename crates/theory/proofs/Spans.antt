@@ -1,7 +1,6 @@
 -- What an ended call put out between its places, and what its 105 says. It ends in spanned and said.
 use Rattle.std.proofs.Common.{◌≡◌, ℕ, zero, suc, ◌+◌, ◌-◌, ◌*◌, ◌<◌, ◌≤◌, Bool, true, false, cond, eqb, ltb, List, [], ◌∷◌, ◌++◌, length, take, drop, sum_by, count_by, sym, refl, ap, ◌∙◌, subst, inl, inr, arith}
-use Rattle.std.specs.List.{ContainsAt as Has, AllByRecursion}
-use Rattle.std.proofs.ByRecursion.{All-weaker, all-has}
+use Rattle.std.specs.List.{Contains, AllByRecursion}
 use Rattle.std.proofs.lemmas.List.{length_push, length-drop, drop-append-le, drop_at, take-append-le, take_all}
 use Rattle.std.proofs.lemmas.List.Sums.{sum_by_push}
 use Rattle.std.proofs.lemmas.Bool.{cases_Bool, cond-true, cond-false, lt-ltb, eqb-true}
@@ -11,6 +10,7 @@ use Rattle.orders.specs.Answer.{listed_as}
 use Rattle.settings.specs.declared.checked.Checked.{Checked}
 use Rattle.laws.specs.Entries.{Entry}
 use Rattle.laws.specs.Laws.{own_messages, span, rounds_of, messages_of}
+use Rattle.theory.proofs.Lists.{All-weaker, All-contains}
 use Rattle.theory.proofs.History.{Done, begun, begun_by, spent, spent_by, done}
 use Rattle.theory.proofs.Calls.{At}
 use Rattle.theory.proofs.Places.{oldest, length_oldest, at_same}
@@ -182,9 +182,9 @@ recorded (x ∷ log) =
     ]
 
 -- what the 105 at the end of a call says
-pub said : (log : List Entry) (d : Done) → Has (done log) d → (j : ℕ) (e : Entry) → d.end ≡ j → At log j e
+pub said : (log : List Entry) (d : Done) → Contains (done log) d → (j : ℕ) (e : Entry) → d.end ≡ j → At log j e
     → (d.version ≡ (listed_as e.answer).version) × (d.value ≡ (listed_as e.answer).value) × (d.rounds ≡ (listed_as e.answer).rounds)
 said log d h j e p a =
-    let r = all-has (Recorded log) (done log) d (recorded log) h in
+    let r = All-contains (Recorded log) (done log) d (recorded log) h in
     let s : r.entry ≡ e = at_same log j r.entry e (subst (λ n. At log n r.entry) p r.at) a in
     (r.version ∙ ap (λ (e : Entry). (listed_as e.answer).version) s, r.value ∙ ap (λ (e : Entry). (listed_as e.answer).value) s, r.rounds ∙ ap (λ (e : Entry). (listed_as e.answer).rounds) s)

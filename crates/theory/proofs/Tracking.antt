@@ -1,15 +1,14 @@
 -- The calls of a client in a log, one after the other: ends in `faithful`, the list of the ended calls is what the log says.
 use Rattle.std.proofs.Common.{◌≡◌, ℕ, ◌<◌, eqb, ◌⊎◌, List, [], ◌∷◌, length, sym, refl, ap, ◌∙◌, subst, inl, inr, arith}
-use Rattle.std.proofs.ByRecursion.{all-has, All-weaker}
 use Rattle.std.proofs.lemmas.Bool.{cases_Bool, cases_order, eq-eqb}
-use Rattle.std.specs.List.{ContainsAt as Has, AllByRecursion}
+use Rattle.std.specs.List.{Contains, AllByRecursion}
 use Rattle.orders.specs.Answer.{listed_as}
 use Rattle.orders.specs.declared.order.Order.TheVariants.{Tell}
 use Rattle.laws.specs.Entries.{Entry}
+use Rattle.theory.proofs.Lists.{All-contains, All-weaker, has_here, has_there}
 use Rattle.theory.proofs.Model.{Phase, idle, due, awaiting, Client}
 use Rattle.theory.proofs.History.{Done, begun, done}
 use Rattle.theory.proofs.Calls.{At, Starts, Ends, BeginsAt, EndsAt, NextEnd, AwaitsTell, Faithful}
-use Rattle.theory.proofs.Members.{has_here, has_there}
 
 pub at_below : (log : List Entry) (i : ℕ) (e : Entry) → At log i e → i < length log
 at_below [] i e h = absurd h
@@ -156,7 +155,7 @@ sound_more x log ds h = All-weaker _ _ (λ d p. (at_more (Starts d.client) x log
 -- ---- the list of the ended calls
 
 -- Every end in the log is that of a call in the list.
-from_end : (log : List Entry) (c j : ℕ) → EndsAt log c j → (d : Done) × Has (done log) d × (d.client ≡ c) × (d.end ≡ j)
+from_end : (log : List Entry) (c j : ℕ) → EndsAt log c j → (d : Done) × Contains (done log) d × (d.client ≡ c) × (d.end ≡ j)
 from_end [] c j h = absurd h.1
 from_end (x ∷ log) c j h =
     elim (at_split (Ends c) x log j h) [
@@ -175,7 +174,7 @@ faithful log clients t =
       sound = t.sound;
       complete = λ c i j b n.
           let r = from_end log c j n.ends in
-          let s = all-has (λ d. BeginsAt log d.client d.begin × NextEnd log d.client d.begin d.end) (done log) r.0 t.sound r.1 in
+          let s = All-contains (λ d. BeginsAt log d.client d.begin × NextEnd log d.client d.begin d.end) (done log) r.0 t.sound r.1 in
           let b' : BeginsAt log c r.0.begin = subst (λ k. BeginsAt log k r.0.begin) r.2 s.0 in
           let n' : NextEnd log c r.0.begin j = subst (λ k. NextEnd log c r.0.begin k) r.3 (subst (λ k. NextEnd log k r.0.begin r.0.end) r.2 s.1) in
           (r.0, r.1, r.2, same c i r.0.begin j b b' n n', r.3);
