@@ -7,8 +7,7 @@ use console::print::print;
 use runner::choice::Choice;
 use std::io::{Read, Write};
 
-// The number that the digits write.
-// Stays: the program does what it did: `parse` refuses bytes that are no digits, and this counts them.
+// The number that the digits write. No byte is refused: one below `0` counts as 0, one above `9` as more than 9.
 fn number(digits: &[u8]) -> usize {
     digits.iter().fold(0, |n: usize, b| {
         n.saturating_mul(10)

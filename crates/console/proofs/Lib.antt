@@ -1,1 +1,2 @@
+-- The lemmas.
 mod Printing

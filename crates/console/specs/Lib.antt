@@ -1,1 +1,2 @@
+-- What the contracts of the programs' shared part cite.
 pub mod Print

@@ -1,3 +1,4 @@
+-- What the contracts of settings cite.
 pub mod Range
 pub mod Fault
 pub mod Checked

@@ -1,3 +1,4 @@
+-- The lemmas, from numbers and single words up to whole sheets.
 pub mod Numbers
 pub mod Walks
 pub mod Counting

@@ -1,3 +1,4 @@
+-- What the contracts of the reader and the listing writer cite.
 pub mod FirstFault
 pub mod Form
 pub mod Kind

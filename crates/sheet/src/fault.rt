@@ -3,7 +3,6 @@ ghost use Rattle.std.specs.Prelude.{◌≡◌};
 ghost use Rattle.sheet.specs.Fault.{shown};
 
 /// What is wrong. A word is a part of the sheet, and lines count from 1.
-// Stays: the product's rules name this form: a fault that returns a part of the input with its line.
 #[derive(Clone, Copy, Debug, PartialEq, Eq)]
 pub enum SheetFault<'a> {
     /// a word or a separator is not of the form
@@ -22,7 +21,6 @@ pub enum SheetFault<'a> {
 
 impl<'a> SheetFault<'a> {
     /// 31 to 36, in the order of the cases.
-    // Stays: no plainer as a From: a fault shows a number, a line and a word, each by a method of its name.
     pub fn number(self) -> u32
         ensures { result ≡ (shown self.entry).number }
     {

@@ -7,7 +7,7 @@ ghost use Rattle.sheet.specs.Steps.{Unfit};
 
 use crate::fault::SheetFault;
 
-// Stays: no twin of `Order`: the kind alone, before its number is read.
+// The kind alone: what the order is about stands behind it, and is not read yet.
 #[derive(Clone, Copy)]
 pub(crate) enum Kind {
     Write,
@@ -35,7 +35,6 @@ fn kind_of(word: &[u8]) -> Option<Kind>
     let [byte] = word else {
         return None;
     };
-    // Stays: the product's rules name this form: a match over the char literals of the six kinds.
     match char::from(*byte) {
         'w' => Some(Kind::Write),
         'r' => Some(Kind::Read),

@@ -19,7 +19,6 @@ fn amount_of(digits: &[u8]) -> Option<u32>
 }
 
 // The number that the digits of a word write, up to a limit.
-// Stays: a word and its line go as two parameters, here and below: each fault holds the two as fields of its own, and a struct of both would be taken apart at every fault.
 fn bounded<'a>(
     word: &'a [u8],
     digits: &[u8],

@@ -18,7 +18,7 @@ impl<'a> Cursor<'a> {
         self.order_of(kind)
     }
 
-    // Stays: no call of `field`, since the separator depends on what the word is.
+    // Not by `field`: which separator is due depends on what the word is.
     fn kind(&mut self) -> Result<Kind, SheetFault<'a>>
         ensures { Reads (λ _. Unit {0}) kind_words self.old self.new result }
     {
@@ -32,7 +32,6 @@ impl<'a> Cursor<'a> {
     fn order_of(&mut self, kind: Kind) -> Result<Order, SheetFault<'a>>
         ensures { Reads (OfKind kind) behind_kind self.old self.new result }
     {
-        // Stays: a kind is read from the sheet before its number, so an enum holds it; a function pointer may not be handed out.
         match kind {
             Kind::Write => self.value(b'\n').map(Order::Write),
             Kind::Read => self.number(NUMBER_MAX, b'\n').map(Order::Read),

@@ -4,7 +4,6 @@ ghost use Rattle.std.specs.List.{prefix_len};
 ghost use Rattle.sheet.specs.Word.{in_word, numeral, sort_of, sorted};
 
 /// A judged word. Each case holds a part of the sheet.
-// Stays: the product's rules name this form: an enum whose cases hold parts of the input.
 #[derive(Clone, Copy)]
 pub enum Word<'a> {
     /// a number

@@ -4,7 +4,6 @@ use sheet::read::read;
 use std::test::Fail;
 
 // The fault of a sheet for which two places are handed in.
-// Stays: numbers, as they are listed: a test keeps its expected values.
 fn refused(sheet: &[u8], number: u32, line: usize, word: &[u8]) -> Result<(), Fail> {
     let mut orders = [Order::Carry; 2];
     match read(sheet, &mut orders) {

@@ -37,7 +37,6 @@ fn cut_short(rt: HostRuntime) -> Result<(), Fail> {
     match write_listing(&ANSWERS, &mut out, &mut at) {
         Ok(_) => Err(Fail::new("the listing fitted")),
         Err(fault) => {
-            // Stays: a number, as it is listed: a test keeps its expected values.
             assert_eq!(rt; fault.number(), 36);
             assert_eq!(rt; at.len, 12);
             Ok(())

@@ -1,3 +1,4 @@
+-- Taking at most 65,536 bytes leaves the first of what was given.
 use Rattle.console.proofs.Printing.{taken}
 use Rattle.console.proofs.run.read_sheet.Goals as goal
 

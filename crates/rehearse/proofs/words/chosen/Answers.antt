@@ -1,3 +1,4 @@
+-- Five words are matched one by one: those that name two layers, and any others.
 use Rattle.std.proofs.Common.{List, [], ℕ, Bor, rules, refl, get_or}
 use Rattle.rehearse.proofs.FiveWords.{five, another_below}
 use Rattle.rehearse.proofs.words.chosen.Goals as goal

@@ -1,4 +1,4 @@
--- The invariant of the loop of `write_listing`.
+-- The lines of the answers before this one stand in the space, and nothing else.
 use Rattle.std.proofs.Common.{◌≡◌, ◌≤◌, length, take}
 use Rattle.sheet.specs.Listing.{listing_of}
 use Rattle.sheet.proofs.listing.write_listing.Given as goal

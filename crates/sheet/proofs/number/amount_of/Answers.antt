@@ -1,4 +1,4 @@
--- What the search leaves to show of `amount_of`.
+-- Digits are UTF-8, and parsing them gives their amount where it is below 2 ^ 32.
 use Rattle.std.proofs.Common.{◌≡◌, ℕ, ◌^◌, ◌<◌, List, length, subst, arith}
 use Rattle.std.specs.Result.{OkIff}
 use Rattle.std.specs.Str.{IsUtf8}

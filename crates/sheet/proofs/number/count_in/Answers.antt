@@ -1,4 +1,3 @@
--- What the search leaves to show of `count_in`.
 use Rattle.std.proofs.Common.{refl}
 use Rattle.sheet.specs.Steps.{unplaced}
 use Rattle.sheet.proofs.number.count_in.Goals as goal

@@ -1,4 +1,3 @@
--- What the search leaves to show of `number_in`.
 use Rattle.std.proofs.Common.{arith}
 use Rattle.std.proofs.lemmas.Result.{MatchResult-weaker}
 use Rattle.sheet.specs.Steps.{unbounded}

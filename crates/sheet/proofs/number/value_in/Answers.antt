@@ -1,4 +1,3 @@
--- What the search leaves to show of `value_in`.
 use Rattle.sheet.proofs.Numbers.{values_positive, values_negative}
 use Rattle.sheet.proofs.number.value_in.Goals as goal
 

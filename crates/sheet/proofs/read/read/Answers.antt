@@ -1,4 +1,3 @@
--- What the search leaves to show of `read`.
 use Rattle.std.proofs.Common.{refl, Ok, Err}
 use Rattle.std.proofs.lemmas.Result.{err_from_is_err_and}
 use Rattle.sheet.specs.Fault.{shown}

@@ -1,4 +1,3 @@
--- What the search leaves to show of `word_len`.
 use Rattle.std.proofs.Common.{ℕ, Bool, ◌||◌, eqb, refl, arith, rules, tests}
 use Rattle.std.specs.List.{prefix_len}
 use Rattle.std.proofs.lemmas.Bool.Decides.{nat_tests}

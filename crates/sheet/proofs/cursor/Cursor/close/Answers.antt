@@ -1,4 +1,3 @@
--- What the search leaves to show of `Cursor::close`.
 use Rattle.std.proofs.Common.{◌≡◌, ◌∷◌, ◌++◌, sym, refl, arith}
 use Rattle.std.proofs.lemmas.Grind.{common_steps}
 use Rattle.sheet.specs.Steps.{swapped}

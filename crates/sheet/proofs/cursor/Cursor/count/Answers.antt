@@ -1,4 +1,3 @@
--- What the search leaves to show of `Cursor::count`.
 use Rattle.std.proofs.Common.{[], arith, rules}
 use Rattle.std.proofs.lemmas.Result.{err_from_is_err_and, MatchResult-weaker}
 use Rattle.sheet.specs.Form.{number_words, orders_max, orders_words}

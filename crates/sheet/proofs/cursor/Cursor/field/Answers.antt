@@ -1,4 +1,3 @@
--- What the search leaves to show of `Cursor::field`.
 use Rattle.std.proofs.lemmas.Result.{err_from_is_err_and}
 use Rattle.sheet.specs.Steps.{refused, unclosed}
 use Rattle.sheet.proofs.cursor.Cursor.field.Goals as goal

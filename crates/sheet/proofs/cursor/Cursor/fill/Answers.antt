@@ -1,4 +1,3 @@
--- What the search leaves to show of `Cursor::fill`.
 use Rattle.std.proofs.Common.{◌≡◌, length, take, pos, arith}
 use Rattle.std.proofs.lemmas.List.{set-get_or, length-take-le}
 use Rattle.std.proofs.lemmas.Result.{err_from_is_err_and}

@@ -1,4 +1,4 @@
--- The invariant of the loop of `Cursor::fill`.
+-- The orders before the place are taken and filled.
 use Rattle.std.proofs.Common.{take}
 use Rattle.sheet.specs.Steps.{Filled}
 use Rattle.sheet.proofs.cursor.Cursor.fill.Given as goal

@@ -1,4 +1,3 @@
--- What the search leaves to show of `Cursor::fixed`.
 use Rattle.std.proofs.Common.{rules}
 use Rattle.sheet.specs.Form.{fixed}
 use Rattle.sheet.proofs.Fields.{stepped}

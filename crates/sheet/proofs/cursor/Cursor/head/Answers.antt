@@ -1,4 +1,3 @@
--- What the search leaves to show of `Cursor::head`.
 use Rattle.std.proofs.lemmas.Result.{err_from_is_err_and}
 use Rattle.sheet.specs.Fault.{shown}
 use Rattle.sheet.proofs.Heads.{title_fault, settings_fault, count_fault}

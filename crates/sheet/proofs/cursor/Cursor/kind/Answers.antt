@@ -1,4 +1,4 @@
--- What the search leaves to show of `Cursor::kind`.
+-- A fault where no kind is known is one at the word of any kind; carry is taken.
 use Rattle.std.proofs.lemmas.Result.{err_from_is_err_and}
 use Rattle.sheet.specs.declared.kind.Kind.TheVariants.{Carry}
 use Rattle.sheet.specs.Form.{placed, kind}

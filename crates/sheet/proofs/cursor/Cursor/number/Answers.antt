@@ -1,4 +1,3 @@
--- What the search leaves to show of `Cursor::number`.
 use Rattle.std.proofs.Common.{◌≤◌, decimal, arith, rules}
 use Rattle.sheet.specs.Form.{number}
 use Rattle.sheet.proofs.Fields.{stepped}

@@ -1,4 +1,4 @@
--- What the search leaves to show of `Cursor::order`.
+-- A fault at the word of the kind is one in the line of some order of that kind.
 use Rattle.std.proofs.Common.{List, sym, subst}
 use Rattle.std.proofs.lemmas.Result.{err_from_is_err_and, MatchResult-weaker}
 use Rattle.sheet.specs.Form.{Placed}

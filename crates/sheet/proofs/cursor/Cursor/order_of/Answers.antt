@@ -1,4 +1,3 @@
--- What the search leaves to show of `Cursor::order_of`.
 use Rattle.std.proofs.Common.{refl, rules}
 use Rattle.orders.specs.declared.order.Order.TheVariants as order
 use Rattle.sheet.specs.declared.kind.Kind.TheVariants.{Write, Read, Tell, ReplicaOut, ClientOut}

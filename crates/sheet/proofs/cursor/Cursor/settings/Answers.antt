@@ -1,4 +1,4 @@
--- What the search leaves to show of `Cursor::settings`.
+-- A fault at one of the five words: those before it were taken, and those behind it may be any, so zeros are taken.
 use Rattle.std.proofs.Common.{◌++◌, pos, arith}
 use Rattle.std.proofs.lemmas.Result.{err_from_is_err_and}
 use Rattle.sheet.specs.Form.{number_max, number_words, value_words}

@@ -1,4 +1,3 @@
--- What the search leaves to show of `Cursor::title`.
 use Rattle.std.proofs.Common.{codes}
 use Rattle.std.proofs.lemmas.Result.{err_from_is_err_and, MatchResult-weaker}
 use Rattle.sheet.specs.Form.{fixed_words}

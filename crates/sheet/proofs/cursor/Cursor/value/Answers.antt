@@ -1,4 +1,3 @@
--- What the search leaves to show of `Cursor::value`.
 use Rattle.std.proofs.Common.{pos, arith, rules}
 use Rattle.std.specs.Fmt.{signed_decimal}
 use Rattle.sheet.specs.Form.{value, SmallValue}

@@ -1,4 +1,4 @@
--- What the search leaves to show of `Position::line`.
+-- Five words one after another: they fit all, or the first of them that does not is followed by none.
 use Rattle.std.proofs.Common.{false, ◌++◌, is_ok, decimal, arith, w32, SFits, rules}
 use Rattle.std.specs.Fmt.{signed_decimal}
 use Rattle.std.proofs.lemmas.Int.{to_z-of_z}

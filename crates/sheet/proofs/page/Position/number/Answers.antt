@@ -1,4 +1,3 @@
--- What the search leaves to show of `Position::number`.
 use Rattle.std.proofs.Common.{arith}
 use Rattle.sheet.proofs.Digits.{one_digit, two_digits}
 use Rattle.sheet.proofs.page.Position.number.Goals as goal

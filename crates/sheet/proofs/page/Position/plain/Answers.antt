@@ -1,4 +1,3 @@
--- What the search leaves to show of `Position::plain`.
 use Rattle.std.proofs.Common.{false, ◌++◌, is_ok, decimal, arith}
 use Rattle.std.proofs.lemmas.Result.{err_from_is_err_and}
 use Rattle.sheet.specs.Listing.{end_of, plain_answer}
