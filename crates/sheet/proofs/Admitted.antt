@@ -8,8 +8,11 @@ use Rattle.std.proofs.lemmas.Bool.Decides.{nat_tests}
 use Rattle.orders.specs.declared.order.Order.{Order}
 use Rattle.orders.specs.declared.order.Order.TheVariants.{Write, Read, Tell, Carry, ReplicaOut, ClientOut}
 use Rattle.settings.specs.declared.given.Settings.{Settings}
+use Rattle.sheet.specs.declared.kind.Kind.{Kind}
+use Rattle.sheet.specs.declared.kind.Kind.TheVariants as of
+use Rattle.sheet.specs.Kind.{word_for}
 use Rattle.sheet.specs.Word.{in_word, is_digit, all_digits, numeral, negated, amount}
-use Rattle.sheet.specs.Form.{number, value, kind, Placed, placed, number_max, orders_max, head_words, order_words, kind_of, SmallValue, SmallSettings, FineOrder}
+use Rattle.sheet.specs.Form.{number, value, kind, Placed, placed, number_max, orders_max, head_words, order_words, SmallValue, SmallSettings, FineOrder}
 use Rattle.sheet.specs.FirstFault.{formed, above}
 use Rattle.sheet.proofs.Numbers.{own}
 use Rattle.sheet.proofs.Unique.{Plain, Good}
@@ -127,18 +130,18 @@ head_admitted s n h few = (
   ),
 )
 
-pub kind_admitted : (o : Order) (separator : ℕ) → FineOrder o → in_word separator ≡ false → Admitted (placed kind (kind_of o) separator)
-kind_admitted (Write z) separator h s = record { good = record { plain = (refl, tt); stops = s }; form = refl; size = refl }
-kind_admitted (Read n) separator h s = record { good = record { plain = (refl, tt); stops = s }; form = refl; size = refl }
-kind_admitted (Tell n) separator h s = record { good = record { plain = (refl, tt); stops = s }; form = refl; size = refl }
-kind_admitted Carry separator h s = record { good = record { plain = (refl, tt); stops = s }; form = refl; size = refl }
-kind_admitted (ReplicaOut n) separator h s = record { good = record { plain = (refl, tt); stops = s }; form = refl; size = refl }
-kind_admitted (ClientOut n) separator h s = record { good = record { plain = (refl, tt); stops = s }; form = refl; size = refl }
+pub kind_admitted : (k : Kind) (separator : ℕ) → in_word separator ≡ false → Admitted (placed kind (word_for k) separator)
+kind_admitted of.Write separator s = record { good = record { plain = (refl, tt); stops = s }; form = refl; size = refl }
+kind_admitted of.Read separator s = record { good = record { plain = (refl, tt); stops = s }; form = refl; size = refl }
+kind_admitted of.Tell separator s = record { good = record { plain = (refl, tt); stops = s }; form = refl; size = refl }
+kind_admitted of.Carry separator s = record { good = record { plain = (refl, tt); stops = s }; form = refl; size = refl }
+kind_admitted of.ReplicaOut separator s = record { good = record { plain = (refl, tt); stops = s }; form = refl; size = refl }
+kind_admitted of.ClientOut separator s = record { good = record { plain = (refl, tt); stops = s }; form = refl; size = refl }
 
 pub order_admitted : (o : Order) → FineOrder o → AllByRecursion Admitted (order_words o)
-order_admitted (Write z) h = (kind_admitted (Write z) 32 h refl, (value_admitted z 10 h.small refl, tt))
-order_admitted (Read n) h = (kind_admitted (Read n) 32 h refl, (number_admitted number_max n 10 h.small (omega arith) refl, tt))
-order_admitted (Tell n) h = (kind_admitted (Tell n) 32 h refl, (number_admitted number_max n 10 h.small (omega arith) refl, tt))
-order_admitted Carry h = (kind_admitted Carry 10 h refl, tt)
-order_admitted (ReplicaOut n) h = (kind_admitted (ReplicaOut n) 32 h refl, (number_admitted number_max n 10 h.small (omega arith) refl, tt))
-order_admitted (ClientOut n) h = (kind_admitted (ClientOut n) 32 h refl, (number_admitted number_max n 10 h.small (omega arith) refl, tt))
+order_admitted (Write z) h = (kind_admitted of.Write 32 refl, (value_admitted z 10 h.small refl, tt))
+order_admitted (Read n) h = (kind_admitted of.Read 32 refl, (number_admitted number_max n 10 h.small (omega arith) refl, tt))
+order_admitted (Tell n) h = (kind_admitted of.Tell 32 refl, (number_admitted number_max n 10 h.small (omega arith) refl, tt))
+order_admitted Carry h = (kind_admitted of.Carry 10 refl, tt)
+order_admitted (ReplicaOut n) h = (kind_admitted of.ReplicaOut 32 refl, (number_admitted number_max n 10 h.small (omega arith) refl, tt))
+order_admitted (ClientOut n) h = (kind_admitted of.ClientOut 32 refl, (number_admitted number_max n 10 h.small (omega arith) refl, tt))

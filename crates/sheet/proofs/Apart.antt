@@ -1,19 +1,18 @@
 -- Different settings and orders have different bytes; it ends in `head_peel` and `orders_peel`.
-use Rattle.std.proofs.Common.{◌≡◌, ℕ, ◌^◌, ◌<◌, ◌≤◌, Bool, true, false, cond, List, [], ◌∷◌, ◌++◌, length, get_or, ℤ, pos, negsuc, nat_abs, codes, decimal, sym, refl, ap, ◌∙◌, subst, inl, inr, append_assoc, arith}
+use Rattle.std.proofs.Common.{◌≡◌, ℕ, Some, ◌^◌, ◌<◌, ◌≤◌, List, [], ◌∷◌, ◌++◌, length, get_or, ℤ, pos, negsuc, nat_abs, decimal, sym, refl, ap, ◌∙◌, append_assoc, arith}
 use lib.Signed.{mag}
 use Rattle.std.specs.Fmt.{signed_decimal}
 use Rattle.std.specs.List.{AllByRecursion}
-use Rattle.std.specs.Str.{bytes_eq}
 use Rattle.std.proofs.lemmas.Fmt.{decimal_injective, signed_decimal_injective}
 use Rattle.std.proofs.ByRecursion.{All-weaker}
-use Rattle.std.proofs.lemmas.Slice.Eq.{bytes_eq-Decides}
-use Rattle.std.proofs.lemmas.Bool.{cases_Bool}
 use Rattle.orders.specs.declared.order.Order.{Order}
 use Rattle.orders.specs.declared.order.Order.TheVariants.{Write, Read, Tell, Carry, ReplicaOut, ClientOut}
 use Rattle.settings.specs.declared.given.Settings.{Settings}
 use Rattle.sheet.specs.Word.{closed}
-use Rattle.sheet.specs.Form.{Due, number, value, kind, Placed, placed, number_max, orders_max, head_words, order_words, lines_of, kind_of, bytes_of, SmallValue, SmallOrder, SmallSettings, FineOrder}
-use Rattle.sheet.specs.Kind.{behind_kind}
+use Rattle.sheet.specs.Form.{Due, number, value, kind, Placed, placed, number_max, orders_max, head_words, order_words, lines_of, about_words, bytes_of, SmallValue, SmallOrder, SmallSettings, FineOrder}
+use Rattle.sheet.specs.declared.kind.Kind.{Kind}
+use Rattle.sheet.specs.declared.kind.Kind.TheVariants as of
+use Rattle.sheet.specs.Kind.{kind_of, kind_at, word_for, separator_for}
 use Rattle.sheet.proofs.Unique.{Good, words_in, unique, peel}
 use Rattle.sheet.proofs.Admitted.{Admitted, head_admitted, order_admitted}
 use Rattle.sheet.proofs.Refuted.{Matches}
@@ -47,12 +46,29 @@ head_peel s t m n x y g h fm fn e =
       rest = r.rest;
     }
 
--- what the word of a kind tells of its line
-abbrev kind_end : List ℕ → ℕ
-kind_end w = cond (bytes_eq w (codes "c")) 10 32
+-- the kind whose word it is
+kind_again : (k : Kind) → kind_at (word_for k) ≡ Some k
+kind_again of.Write = refl
+kind_again of.Read = refl
+kind_again of.Tell = refl
+kind_again of.Carry = refl
+kind_again of.ReplicaOut = refl
+kind_again of.ClientOut = refl
 
-abbrev shape : List ℕ → List Due
-shape w = cond (bytes_eq w (codes "c")) [] (cond (bytes_eq w (codes "w")) (value ∷ []) (number number_max ∷ []))
+some_same : (j k : Kind) → Some j ≡ Some k → j ≡ k
+some_same j k e = cc
+
+same_kind : (j k : Kind) → word_for j ≡ word_for k → j ≡ k
+same_kind j k e = some_same j k (sym (kind_again j) ∙ ap kind_at e ∙ kind_again k)
+
+-- what the kind tells of its line
+abbrev shape : Kind → List Due
+shape of.Write = value ∷ []
+shape of.Read = number number_max ∷ []
+shape of.Tell = number number_max ∷ []
+shape of.Carry = []
+shape of.ReplicaOut = number number_max ∷ []
+shape of.ClientOut = number number_max ∷ []
 
 abbrev about : Order → ℤ
 about (Write z) = z
@@ -62,10 +78,17 @@ about Carry = pos 0
 about (ReplicaOut n) = pos n
 about (ClientOut n) = pos n
 
-abbrev built : List ℕ → ℤ → Order
-built w z =
-    cond (bytes_eq w (codes "w")) (Write z) (cond (bytes_eq w (codes "r")) (Read (nat_abs z)) (cond (bytes_eq w (codes "t")) (Tell (nat_abs z))
-    (cond (bytes_eq w (codes "c")) Carry (cond (bytes_eq w (codes "b")) (ReplicaOut (nat_abs z)) (ClientOut (nat_abs z))))))
+abbrev written : Kind → ℤ → List (List ℕ)
+written of.Carry z = []
+written k z = signed_decimal z ∷ []
+
+abbrev built : Kind → ℤ → Order
+built of.Write z = Write z
+built of.Read z = Read (nat_abs z)
+built of.Tell z = Tell (nat_abs z)
+built of.Carry z = Carry
+built of.ReplicaOut z = ReplicaOut (nat_abs z)
+built of.ClientOut z = ClientOut (nat_abs z)
 
 abbrev dues_in : List Placed → List Due
 dues_in [] = []
@@ -76,22 +99,18 @@ Ends p = p.separator ≡ 10
 
 -- all that the proofs below know of the six kinds
 record Line (o : Order) : Type 0 where
-  parts : order_words o ≡ placed kind (kind_of o) (kind_end (kind_of o)) ∷ behind_kind o
-  dues : dues_in (behind_kind o) ≡ shape (kind_of o)
-  ends : AllByRecursion Ends (behind_kind o)
-  words : words_in (behind_kind o) ≡ cond (bytes_eq (kind_of o) (codes "c")) [] (signed_decimal (about o) ∷ [])
+  dues : dues_in (about_words o) ≡ shape (kind_of o)
+  ends : AllByRecursion Ends (about_words o)
+  words : words_in (about_words o) ≡ written (kind_of o) (about o)
   again : o ≡ built (kind_of o) (about o)
 
 line_of : (o : Order) → Line o
-line_of (Write z) = record { parts = refl; dues = refl; ends = (refl, tt); words = refl; again = refl }
-line_of (Read n) = record { parts = refl; dues = refl; ends = (refl, tt); words = refl; again = refl }
-line_of (Tell n) = record { parts = refl; dues = refl; ends = (refl, tt); words = refl; again = refl }
-line_of Carry = record { parts = refl; dues = refl; ends = tt; words = refl; again = refl }
-line_of (ReplicaOut n) = record { parts = refl; dues = refl; ends = (refl, tt); words = refl; again = refl }
-line_of (ClientOut n) = record { parts = refl; dues = refl; ends = (refl, tt); words = refl; again = refl }
-
-order_parts : (o : Order) → order_words o ≡ placed kind (kind_of o) (kind_end (kind_of o)) ∷ behind_kind o
-order_parts o = (line_of o).parts
+line_of (Write z) = record { dues = refl; ends = (refl, tt); words = refl; again = refl }
+line_of (Read n) = record { dues = refl; ends = (refl, tt); words = refl; again = refl }
+line_of (Tell n) = record { dues = refl; ends = (refl, tt); words = refl; again = refl }
+line_of Carry = record { dues = refl; ends = tt; words = refl; again = refl }
+line_of (ReplicaOut n) = record { dues = refl; ends = (refl, tt); words = refl; again = refl }
+line_of (ClientOut n) = record { dues = refl; ends = (refl, tt); words = refl; again = refl }
 
 small_about : (o : Order) → SmallOrder o → mag (about o) < 2 ^ 63
 small_about (Write z) h = small_mag z h
@@ -101,24 +120,22 @@ small_about Carry h = omega arith
 small_about (ReplicaOut n) h = omega arith
 small_about (ClientOut n) h = omega arith
 
--- the same list, or the same value
-same_behind : (b : Bool) (y z : ℤ) → mag y < 2 ^ 63 → mag z < 2 ^ 63 → cond b [] (signed_decimal y ∷ []) ≡ cond b [] (signed_decimal z ∷ []) → b ≡ false → y ≡ z
-same_behind true y z g h e f = absurd (let k : ◌≡◌ {A = ℕ} 0 1 = cc in omega arith)
-same_behind false y z g h e f = signed_decimal_injective y z g h (ap (λ ws. get_or ws 0 []) e)
+-- the same word, the same number
+same_about : (y z : ℤ) → mag y < 2 ^ 63 → mag z < 2 ^ 63 → signed_decimal y ∷ [] ≡ signed_decimal z ∷ [] → y ≡ z
+same_about y z g h e = signed_decimal_injective y z g h (ap (λ ws. get_or ws 0 []) e)
 
-same_order : (o p : Order) → SmallOrder o → SmallOrder p → kind_of o ≡ kind_of p → words_in (behind_kind o) ≡ words_in (behind_kind p) → o ≡ p
+same_built : (k : Kind) (y z : ℤ) → mag y < 2 ^ 63 → mag z < 2 ^ 63 → written k y ≡ written k z → built k y ≡ built k z
+same_built of.Write y z g h e = ap (built of.Write) (same_about y z g h e)
+same_built of.Read y z g h e = ap (built of.Read) (same_about y z g h e)
+same_built of.Tell y z g h e = ap (built of.Tell) (same_about y z g h e)
+same_built of.Carry y z g h e = refl
+same_built of.ReplicaOut y z g h e = ap (built of.ReplicaOut) (same_about y z g h e)
+same_built of.ClientOut y z g h e = ap (built of.ClientOut) (same_about y z g h e)
+
+same_order : (o p : Order) → SmallOrder o → SmallOrder p → kind_of o ≡ kind_of p → words_in (about_words o) ≡ words_in (about_words p) → o ≡ p
 same_order o p g h k w =
-    let c = bytes_eq (kind_of o) (codes "c") in
-    let back : p ≡ built (kind_of o) (about p) = (line_of p).again ∙ ap (λ v. built v (about p)) (sym k) in
-    elim (cases_Bool c) [
-      | inl t ↦
-          let e : kind_of o ≡ codes "c" = (bytes_eq-Decides (kind_of o) (codes "c")).0 t in
-          (line_of o).again ∙ ap (λ v. built v (about o)) e ∙ sym (back ∙ ap (λ v. built v (about p)) e)
-      | inr f ↦
-          let e : cond c [] (signed_decimal (about o) ∷ []) ≡ cond c [] (signed_decimal (about p) ∷ []) =
-          sym (line_of o).words ∙ w ∙ (line_of p).words ∙ ap (λ v. cond (bytes_eq v (codes "c")) [] (signed_decimal (about p) ∷ [])) (sym k) in
-          (line_of o).again ∙ ap (λ z. built (kind_of o) z) (same_behind c (about o) (about p) (small_about o g) (small_about p h) e f) ∙ sym back
-    ]
+    let e : written (kind_of o) (about o) ≡ written (kind_of o) (about p) = sym (line_of o).words ∙ w ∙ (line_of p).words ∙ ap (λ j. written j (about p)) (sym k) in
+    (line_of o).again ∙ same_built (kind_of o) (about o) (about p) (small_about o g) (small_about p h) e ∙ ap (λ j. built j (about p)) k ∙ sym (line_of p).again
 
 dues_match : (ps qs : List Placed) → dues_in ps ≡ dues_in qs → AllByRecursion Ends ps → AllByRecursion Ends qs → Matches ps qs
 dues_match [] [] e g h = tt
@@ -126,33 +143,29 @@ dues_match [] (q ∷ qs) e g h = absurd (let k : ◌≡◌ {A = ℕ} 0 1 = cc in
 dues_match (p ∷ ps) [] e g h = absurd (let k : ◌≡◌ {A = ℕ} 0 1 = cc in omega arith)
 dues_match (p ∷ ps) (q ∷ qs) e g h = (record { due = cc; separator = λ w. g.0 ∙ sym h.0 }, λ w. dues_match ps qs (cc) g.1 h.1)
 
-behind_match : (o p : Order) → kind_of o ≡ kind_of p → Matches (behind_kind o) (behind_kind p)
-behind_match o p k = dues_match (behind_kind o) (behind_kind p) ((line_of o).dues ∙ ap shape k ∙ sym (line_of p).dues) (line_of o).ends (line_of p).ends
+about_match : (o p : Order) → kind_of o ≡ kind_of p → Matches (about_words o) (about_words p)
+about_match o p k = dues_match (about_words o) (about_words p) ((line_of o).dues ∙ ap shape k ∙ sym (line_of p).dues) (line_of o).ends (line_of p).ends
 
--- the line of an order as its kind and what stands behind that
+-- the same word is of the same kind, so the same is due behind it
 pub order_match : (o p : Order) → Matches (order_words o) (order_words p)
-order_match o p =
-    let P : List Placed → Type 0 = λ ps. Matches ps (order_words p) in
-    let Q : List Placed → Type 0 = λ qs. Matches (placed kind (kind_of o) (kind_end (kind_of o)) ∷ behind_kind o) qs in
-    subst P (sym (order_parts o)) (subst Q (sym (order_parts p)) (record { due = refl; separator = λ w. ap kind_end w }, λ w. behind_match o p w))
+order_match o p = (record { due = refl; separator = λ w. ap separator_for (same_kind (kind_of o) (kind_of p) w) }, λ w. about_match o p (same_kind (kind_of o) (kind_of p) w))
 
 length_dues : (ps : List Placed) → length (dues_in ps) ≡ length ps
 length_dues [] = refl
 length_dues (p ∷ ps) = omega (arith, length_dues ps)
 
-parts_admitted : (o : Order) → FineOrder o → AllByRecursion Admitted (placed kind (kind_of o) (kind_end (kind_of o)) ∷ behind_kind o)
-parts_admitted o h = let P : List Placed → Type 0 = λ ps. AllByRecursion Admitted ps in subst P (order_parts o) (order_admitted o h)
-
 pub order_peel : (o p : Order) (x y : List ℕ) → FineOrder o → FineOrder p → bytes_of (order_words o) ++ x ≡ bytes_of (order_words p) ++ y → (o ≡ p) × (x ≡ y)
 order_peel o p x y g h e =
-    let a = parts_admitted o g in
-    let b = parts_admitted p h in
-    let split : (q : Order) (z : List ℕ) → bytes_of (order_words q) ++ z ≡ closed (kind_of q) (kind_end (kind_of q)) ++ (bytes_of (behind_kind q) ++ z) =
-    λ q z. ap (λ ps. bytes_of ps ++ z) (order_parts q) ∙ append_assoc (closed (kind_of q) (kind_end (kind_of q))) (bytes_of (behind_kind q)) z in
-    let u = unique (placed kind (kind_of o) (kind_end (kind_of o))) (placed kind (kind_of p) (kind_end (kind_of p))) (bytes_of (behind_kind o) ++ x) (bytes_of (behind_kind p) ++ y) a.0.good b.0.good (sym (split o x) ∙ e ∙ split p y) in
-    let long : length (behind_kind o) ≡ length (behind_kind p) = sym (length_dues (behind_kind o)) ∙ ap length ((line_of o).dues ∙ ap shape u.word ∙ sym (line_of p).dues) ∙ length_dues (behind_kind p) in
-    let r = peel (behind_kind o) (behind_kind p) x y (all_good (behind_kind o) a.1) (all_good (behind_kind p) b.1) long u.rest in
-    (same_order o p g.small h.small u.word r.words, r.rest)
+    let a = order_admitted o g in
+    let b = order_admitted p h in
+    let first : Order → Placed = λ q. placed kind (word_for (kind_of q)) (separator_for (kind_of q)) in
+    let split : (q : Order) (z : List ℕ) → bytes_of (order_words q) ++ z ≡ closed (word_for (kind_of q)) (separator_for (kind_of q)) ++ (bytes_of (about_words q) ++ z) =
+    λ q z. append_assoc (closed (word_for (kind_of q)) (separator_for (kind_of q))) (bytes_of (about_words q)) z in
+    let u = unique (first o) (first p) (bytes_of (about_words o) ++ x) (bytes_of (about_words p) ++ y) a.0.good b.0.good (sym (split o x) ∙ e ∙ split p y) in
+    let k = same_kind (kind_of o) (kind_of p) u.word in
+    let long : length (about_words o) ≡ length (about_words p) = sym (length_dues (about_words o)) ∙ ap length ((line_of o).dues ∙ ap shape k ∙ sym (line_of p).dues) ∙ length_dues (about_words p) in
+    let r = peel (about_words o) (about_words p) x y (all_good (about_words o) a.1) (all_good (about_words p) b.1) long u.rest in
+    (same_order o p g.small h.small k r.words, r.rest)
 
 pub line_first : (o : Order) (os : List Order) (x : List ℕ) → bytes_of (lines_of (o ∷ os)) ++ x ≡ bytes_of (order_words o) ++ (bytes_of (lines_of os) ++ x)
 line_first o os x = ap (λ t. t ++ x) (bytes_append (order_words o) (lines_of os)) ∙ append_assoc (bytes_of (order_words o)) (bytes_of (lines_of os)) x

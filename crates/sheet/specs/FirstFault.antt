@@ -1,23 +1,20 @@
 -- The first fault of a sheet: where it leaves every writable sheet.
-use Rattle.std.specs.Prelude.{◌≡◌, ℕ, ◌+◌, ◌<◌, ◌≤◌, Bool, true, false, ◌&&◌, ◌||◌, List, [], ◌∷◌, ◌++◌, length, drop, codes, decimal, ◌≢◌, nat_lt}
+use Rattle.std.specs.Prelude.{◌≡◌, ℕ, ◌+◌, ◌<◌, ◌≤◌, Bool, true, false, ◌&&◌, ◌||◌, List, [], ◌∷◌, ◌++◌, length, drop, decimal, ◌≢◌, nat_lt, is_some}
 use Rattle.std.specs.List.{AllByRecursion}
 use Rattle.std.specs.Str.{bytes_eq}
 use Rattle.orders.specs.declared.order.Order.{Order}
 use Rattle.settings.specs.declared.given.Settings.{Settings}
 use Rattle.sheet.specs.Fault.{Shown, shows}
+use Rattle.sheet.specs.Kind.{kind_at}
 use Rattle.sheet.specs.Word.{word_of, numeral, negated, amount}
 use Rattle.sheet.specs.Form.{Due, fixed, number, value, kind, Placed, bytes_of, lines_in, number_max, orders_max, title_words, settings_words, orders_words, head_words, order_words, lines_of, sheet_of, SmallSettings, FineOrder, Writable}
-
--- the words of the kinds of orders
-abbrev pub kind_word : List ℕ → Bool
-kind_word w = bytes_eq w (codes "w") || (bytes_eq w (codes "r") || (bytes_eq w (codes "t") || (bytes_eq w (codes "c") || (bytes_eq w (codes "b") || bytes_eq w (codes "x")))))
 
 -- the word is of the form that is due
 abbrev pub formed : Due → List ℕ → Bool
 formed (fixed v) w = bytes_eq w v
 formed (number limit) w = numeral w
 formed value w = numeral w || negated w
-formed kind w = kind_word w
+formed kind w = is_some (kind_at w)
 
 -- of that form, the word is above the limit
 abbrev pub above : Due → List ℕ → Bool

@@ -1,10 +1,12 @@
 -- The form of a sheet: its words and bytes, made from settings and orders.
-use Rattle.std.specs.Prelude.{ℕ, ◌+◌, ◌≤◌, cond, List, [], ◌∷◌, ◌++◌, length, ℤ, codes, decimal, ◌==◌, unsigned_abs}
+use Rattle.std.specs.Prelude.{◌≡◌, ℕ, ◌+◌, ◌≤◌, cond, List, [], ◌∷◌, ◌++◌, length, ℤ, codes, decimal, ◌==◌, unsigned_abs}
 use Rattle.std.specs.Fmt.{signed_decimal}
 use Rattle.std.specs.List.{flat_map, AllByRecursion}
 use Rattle.orders.specs.declared.order.Order.{Order}
 use Rattle.orders.specs.declared.order.Order.TheVariants.{Write, Read, Tell, Carry, ReplicaOut, ClientOut}
 use Rattle.settings.specs.declared.given.Settings.{Settings}
+use Rattle.sheet.specs.declared.kind.Kind.{Kind}
+use Rattle.sheet.specs.Kind.{kind_of, word_for, separator_for}
 use Rattle.sheet.specs.Word.{closed}
 
 -- the largest number and the largest size of a value
@@ -61,23 +63,22 @@ orders_words = fixed_words (codes "orders") 32
 abbrev pub head_words : Settings → ℕ → List Placed
 head_words s n = title_words ++ (settings_words s ++ (orders_words ++ number_words orders_max 10 n))
 
--- the word of an order's kind
-abbrev pub kind_of : Order → List ℕ
-kind_of (Write z) = codes "w"
-kind_of (Read n) = codes "r"
-kind_of (Tell n) = codes "t"
-kind_of Carry = codes "c"
-kind_of (ReplicaOut n) = codes "b"
-kind_of (ClientOut n) = codes "x"
+-- the word of a kind
+abbrev pub kind_words : Kind → List Placed
+kind_words k = placed kind (word_for k) (separator_for k) ∷ []
+
+-- what an order is about: a value, the number of a reader, replica or client, or nothing
+abbrev pub about_words : Order → List Placed
+about_words (Write z) = value_words 10 z
+about_words (Read n) = number_words number_max 10 n
+about_words (Tell n) = number_words number_max 10 n
+about_words Carry = []
+about_words (ReplicaOut n) = number_words number_max 10 n
+about_words (ClientOut n) = number_words number_max 10 n
 
 -- an order's line: its kind, and what it is about
 abbrev pub order_words : Order → List Placed
-order_words (Write z) = placed kind (codes "w") 32 ∷ value_words 10 z
-order_words (Read n) = placed kind (codes "r") 32 ∷ number_words number_max 10 n
-order_words (Tell n) = placed kind (codes "t") 32 ∷ number_words number_max 10 n
-order_words Carry = placed kind (codes "c") 10 ∷ []
-order_words (ReplicaOut n) = placed kind (codes "b") 32 ∷ number_words number_max 10 n
-order_words (ClientOut n) = placed kind (codes "x") 32 ∷ number_words number_max 10 n
+order_words o = kind_words (kind_of o) ++ about_words o
 
 -- the lines of orders
 abbrev pub lines_of : List Order → List Placed
@@ -124,6 +125,11 @@ SmallOrder (ClientOut n) = SmallNumber n
 -- an order whose number or value is within the limits
 pub record FineOrder (o : Order) : Type 0 where
   pub small : SmallOrder o
+
+-- such an order of this kind
+pub record OfKind (k : Kind) (o : Order) : Type 0 where
+  pub fine : FineOrder o
+  pub same : kind_of o ≡ k
 
 -- what a sheet can hold
 pub record Writable (s : Settings) (orders : List Order) : Type 0 where

@@ -1,7 +1,6 @@
 //! The line of one order.
 ghost use Rattle.std.specs.Prelude.{◌≡◌, ◌^◌, ◌<◌};
-ghost use Rattle.sheet.specs.Form.{order_words, FineOrder};
-ghost use Rattle.sheet.specs.Kind.{kind_words, behind_kind, OfKind};
+ghost use Rattle.sheet.specs.Form.{order_words, kind_words, about_words, FineOrder, OfKind};
 ghost use Rattle.sheet.specs.Steps.{Reads};
 
 use crate::cursor::Cursor;
@@ -30,7 +29,7 @@ impl<'a> Cursor<'a> {
 
     // What the order is about.
     fn order_of(&mut self, kind: Kind) -> Result<Order, SheetFault<'a>>
-        ensures { Reads (OfKind kind) behind_kind self.old self.new result }
+        ensures { Reads (OfKind kind) about_words self.old self.new result }
     {
         match kind {
             Kind::Write => self.value(b'\n').map(Order::Write),
