@@ -16,10 +16,12 @@ use Rattle.quorum.specs.Decide.{decided_at}
 use Rattle.register.specs.declared.register.Register.{Register}
 use Rattle.register.specs.Register.{client_at}
 use Rattle.register.specs.Handle.{handled_reply}
-use Rattle.register.specs.Refuse.{write_refusal, read_refusal, tell_refusal, refusal}
-use Rattle.register.specs.Calls.{put_out, unless}
-use Rattle.register.specs.Send.{all_of, told_of}
-use Rattle.client.specs.Start.{outgoing, writing, asking, telling}
+use Rattle.register.specs.Refuse.{refusal}
+use Rattle.register.specs.Calls.{put_out, unless, round_of}
+use Rattle.client.specs.declared.start.Round.{Round}
+use Rattle.client.specs.declared.start.Round.TheVariants.{Write as WriteRound, Read as ReadRound, Tell as TellRound}
+use Rattle.client.specs.Start.{outgoing, started, order_of, kind_of, set_size}
+use Rattle.orders.specs.Order.{named}
 use Rattle.register.specs.World.{World, sent_by, Called, Carried}
 use Rattle.laws.specs.Entries.{Entry}
 use Rattle.register.specs.Past.{Step, Past, start, more, answers_of}
@@ -36,14 +38,8 @@ chosen_first m (n ∷ ms) (suc i) =
 
 -- ---- a place is free for each message of an accepted call
 
-write_room : (r : Register) (free : ℕ) (z : ℤ) → write_refusal r (leb (all_of r) free) z ≡ None → all_of r ≤ free
-write_room r free z e = leb-true (all_of r) free (write_passed r _ z e).3
-
-read_room : (r : Register) (free c : ℕ) → read_refusal r (leb (all_of r) free) c ≡ None → all_of r ≤ free
-read_room r free c e = leb-true (all_of r) free (read_passed r _ c e).4
-
-tell_room : (r : Register) (free c : ℕ) → tell_refusal r (leb (told_of r) free) c ≡ None → told_of r ≤ free
-tell_room r free c e = leb-true (told_of r) free (tell_passed r _ c e).3
+length_round : (r : Register) (q : Round) → length (round_of r q) ≡ set_size r.settings (kind_of q)
+length_round r q = length_copies (outgoing r.settings (kind_of q) (named (order_of q)) (started (client_at r (named (order_of q))) q)) (set_size r.settings (kind_of q))
 
 room_for : (x : Option Refusal) (ms : List Message) (free : ℕ) → (x ≡ None → length ms ≤ free) → length (unless x ms []) ≤ free
 room_for None ms free f = f refl
@@ -52,19 +48,13 @@ room_for (Some x) ms free f = omega arith
 fits : (v : World) (o : Order) → length (sent_by v o) ≤ v.free
 fits v (Write z) =
     room_for (refusal v.register v.free (Write z)) (put_out v.register (Write z)) v.free (λ e.
-    let room = write_room v.register v.free z e in
-    let long = length_copies (outgoing v.register.settings 1 0 (writing (client_at v.register 0) z)) (all_of v.register) in
-    omega arith)
+    omega (arith, (write_passed v.register v.free z e).3, length_round v.register (WriteRound z)))
 fits v (Read c) =
     room_for (refusal v.register v.free (Read c)) (put_out v.register (Read c)) v.free (λ e.
-    let room = read_room v.register v.free c e in
-    let long = length_copies (outgoing v.register.settings 2 c (asking (client_at v.register c))) (all_of v.register) in
-    omega arith)
+    omega (arith, (read_passed v.register v.free c e).4, length_round v.register (ReadRound c)))
 fits v (Tell c) =
     room_for (refusal v.register v.free (Tell c)) (put_out v.register (Tell c)) v.free (λ e.
-    let room = tell_room v.register v.free c e in
-    let long = length_copies (outgoing v.register.settings 3 c (telling (client_at v.register c))) (told_of v.register) in
-    omega arith)
+    omega (arith, (tell_passed v.register v.free c e).3, length_round v.register (TellRound c)))
 fits v Carry = omega arith
 fits v (ReplicaOut b) = room_for (refusal v.register v.free (ReplicaOut b)) [] v.free (λ e. omega arith)
 fits v (ClientOut c) = room_for (refusal v.register v.free (ClientOut c)) [] v.free (λ e. omega arith)

@@ -4,6 +4,7 @@ use Rattle.std.specs.List.{AllByRecursion}
 use Rattle.std.specs.Option.{option_map}
 use Rattle.settings.specs.declared.given.Settings.{Settings}
 use Rattle.quorum.specs.Decide.{decided}
+use Rattle.examples.specs.Pasts.{five}
 use Rattle.register.specs.Open.{opening_fault}
 use Rattle.register.specs.Fault.{fault_number}
 use Rattle.wire.specs.Channel.{empty}
@@ -45,7 +46,7 @@ shown_by d = shown_at d.version d.verdict
 -- the rules give what the example says
 abbrev pub Right : Marked → Type 0
 Right (opening s t v refused) = option_map fault_number (opening_fault (settings_of s t v) (empty s)) ≡ refused
-Right (deciding many marks note shown) = shown_by (decided 5 1 2 (replies_of many marks note)) ≡ shown
+Right (deciding many marks note shown) = shown_by (decided five (replies_of many marks note)) ≡ shown
 
 -- marks: 1 is the writer's, 2 and 4 the two groups'
 abbrev pub thirteen : List Marked

@@ -3,6 +3,8 @@ use Rattle.std.proofs.Common.{◌≡◌, ℕ, zero, suc, ◌+◌, ◌-◌, ◌*�
 use Rattle.std.specs.List.{AllByRecursion}
 use Rattle.std.specs.List.Sorted.{IsPermutation}
 use Rattle.std.proofs.lemmas.List.{map-append, length-replicate, length-set}
+use Rattle.std.specs.Option.{option_or}
+use Rattle.std.proofs.lemmas.Bool.Decides.{nat_tests}
 use Rattle.std.proofs.lemmas.Bool.{ltb-false, leb-false, not-false, or_parts, cases_eq, ne_eqb, eq-eqb, cond_both, cond-true, cond-false}
 use Rattle.std.proofs.lemmas.Nat.{pow_below, mod_below}
 use Rattle.wire.specs.declared.message.Message.{Message}
@@ -20,14 +22,12 @@ use Rattle.client.specs.declared.client.Client.{Client}
 use Rattle.register.specs.declared.register.Register.{Register}
 use Rattle.register.specs.Register.{client_at, with_client, blank_client}
 use Rattle.settings.specs.Checked.{mark_of}
-use Rattle.client.specs.Start as starting
-use Rattle.register.specs.Calls as calls
+use Rattle.client.specs.declared.start.Round.TheVariants.{Write as WriteRound, Read as ReadRound, Tell as TellRound}
 use Rattle.register.specs.Refuse as refuse
-use Rattle.register.specs.Send as sets
 use Rattle.register.specs.Send.{toward, copies}
 use Rattle.register.specs.Refuse.{is_idle, is_due, refusal}
-use Rattle.register.specs.Calls.{accepted, put_out, unless, answer_by}
-use Rattle.client.specs.Start.{outgoing, raised}
+use Rattle.register.specs.Calls.{accepted, put_out, unless, answer_by, gone}
+use Rattle.client.specs.Start.{outgoing, raised, started, set_size}
 use Rattle.orders.specs.Order.{named}
 use Rattle.register.specs.World.{World, Called, sent_by}
 use Rattle.laws.specs.Entries.{Entry}
@@ -36,7 +36,7 @@ use Rattle.theory.proofs.Members.{Among}
 use Rattle.theory.proofs.Cards.{Card}
 use Rattle.theory.proofs.Model as model
 use Rattle.theory.proofs.Model.{entry, put, Msg, Same, sent}
-use Rattle.theory.proofs.Matching.{params_of, msg_of, Proper, ReceiptsMatch, ReadingsMatch, PhasesMatch, RoundsLeft, ClientMatches, ClientsMatch, OutsMatch, RegisterMatches, Matches}
+use Rattle.theory.proofs.Matching.{params_of, msg_of, kind_of, Proper, ReceiptsMatch, ReadingsMatch, PhasesMatch, RoundsLeft, ClientMatches, ClientsMatch, OutsMatch, RegisterMatches, Matches}
 use Rattle.theory.proofs.Waiting.{waits_behind}
 use Rattle.theory.proofs.MatchTables.{each_set, each_set_beside, in_left, in_cases, same_self}
 use Rattle.theory.proofs.MatchReached.{Reached, reached_with, refused_reaches}
@@ -98,32 +98,45 @@ pub not_refused : {A : Type 0} (b : Bool) (x : A) (y : Option A) → cond b (Som
 not_refused true x y e = grind arith
 not_refused false x y e = (refl, e)
 
+both_none : {A : Type 0} (x y : Option A) → option_or x y ≡ None → (x ≡ None) × (y ≡ None)
+both_none None y e = (refl, e)
+both_none (Some a) y e = cc
+
+room_left : (k : Checked) (free kind : ℕ) → refuse.room_refusal k free kind ≡ None → set_size k kind ≤ free
+room_left k free kind e = grind (arith, nat_tests)
+
 -- what an accepted write, read and tell passed
-pub write_passed : (r : Register) (room : Bool) (z : ℤ) → refuse.write_refusal r room z ≡ None → ((client_at r 0).out ≡ false) × (is_idle (client_at r 0).phase ≡ true) × ((client_at r 0).round < 2000000) × (room ≡ true)
-write_passed r room z e =
+pub write_passed : (r : Register) (free : ℕ) (z : ℤ) → refuse.write_refusal r free z ≡ None
+    → ((client_at r 0).out ≡ false) × (is_idle (client_at r 0).phase ≡ true) × ((client_at r 0).round < 2000000) × (set_size r.settings 1 ≤ free)
+write_passed r free z e =
     let e0 = not_refused _ _ _ e in
     let e1 = not_refused _ _ _ e0.1 in
     let e2 = not_refused _ _ _ e1.1 in
     let e3 = not_refused _ _ _ e2.1 in
-    let e4 = not_refused _ _ _ e3.1 in
-    (e0.0, not-false _ e1.0, leb-false _ _ e3.0, not-false _ e4.0)
+    (e0.0, not-false _ e1.0, leb-false _ _ e3.0, room_left r.settings free 1 e3.1)
 
-pub read_passed : (r : Register) (room : Bool) (c : ℕ) → refuse.read_refusal r room c ≡ None → (refuse.no_reader r c ≡ false) × ((client_at r c).out ≡ false) × (is_idle (client_at r c).phase ≡ true) × ((client_at r c).round < 2000000) × (room ≡ true)
-read_passed r room c e =
+-- what a reader that can be called passed
+reader_passed : (r : Register) (c : ℕ) → refuse.reader_refusal r c ≡ None → (refuse.no_reader r c ≡ false) × ((client_at r c).out ≡ false)
+reader_passed r c e =
     let e0 = not_refused _ _ _ e in
-    let e1 = not_refused _ _ _ e0.1 in
-    let e2 = not_refused _ _ _ e1.1 in
-    let e3 = not_refused _ _ _ e2.1 in
-    let e4 = not_refused _ _ _ e3.1 in
-    (e0.0, e1.0, not-false _ e2.0, leb-false _ _ e3.0, not-false _ e4.0)
+    (e0.0, (not_refused _ _ _ e0.1).0)
 
-pub tell_passed : (r : Register) (room : Bool) (c : ℕ) → refuse.tell_refusal r room c ≡ None → (refuse.no_reader r c ≡ false) × ((client_at r c).out ≡ false) × (is_due (client_at r c).phase ≡ true) × (room ≡ true)
-tell_passed r room c e =
-    let e0 = not_refused _ _ _ e in
-    let e1 = not_refused _ _ _ e0.1 in
-    let e2 = not_refused _ _ _ e1.1 in
+pub read_passed : (r : Register) (free c : ℕ) → refuse.read_refusal r free c ≡ None
+    → (refuse.no_reader r c ≡ false) × ((client_at r c).out ≡ false) × (is_idle (client_at r c).phase ≡ true) × ((client_at r c).round < 2000000) × (set_size r.settings 2 ≤ free)
+read_passed r free c e =
+    let b = both_none _ _ e in
+    let p = reader_passed r c b.0 in
+    let e2 = not_refused _ _ _ b.1 in
     let e3 = not_refused _ _ _ e2.1 in
-    (e0.0, e1.0, not-false _ e2.0, not-false _ e3.0)
+    (p.0, p.1, not-false _ e2.0, leb-false _ _ e3.0, room_left r.settings free 2 e3.1)
+
+pub tell_passed : (r : Register) (free c : ℕ) → refuse.tell_refusal r free c ≡ None
+    → (refuse.no_reader r c ≡ false) × ((client_at r c).out ≡ false) × (is_due (client_at r c).phase ≡ true) × (set_size r.settings 3 ≤ free)
+tell_passed r free c e =
+    let b = both_none _ _ e in
+    let p = reader_passed r c b.0 in
+    let e2 = not_refused _ _ _ b.1 in
+    (p.0, p.1, not-false _ e2.0, room_left r.settings free 3 e2.1)
 
 reader_below : (r : Register) (c : ℕ) → refuse.no_reader r c ≡ false → c ≤ r.settings.readers
 reader_below r c e = ltb-false r.settings.readers c (or_parts (eqb c 0) (ltb r.settings.readers c) e).1
@@ -183,83 +196,69 @@ module _ (k : Checked) (log : List Entry) (v w : World) (b : model.State) (t : m
   abbrev r : Register
   r = v.register
 
-  -- a state of the model with a client that put out a set of messages
-  started_reaches : (o : Order) (c : ℕ) (x : Client) (y : model.Client) (m : Message) (kd : model.Kind) (n j : ℕ) (d : Card)
-      → model.Trace (params_of k) k.initial (entry o (Accepted c) ms ∷ log) (model.sets b c y (sent kd c y.round d n ++ b.waiting))
-      → c ≤ k.readers → x.out ≡ (client_at r c).out → ClientMatches k x y
-      → ((i : ℕ) → msg_of (toward m i) ≡ aimed kd c y.round d i) → 1 ≤ m.kind → m.kind ≤ 6 → m.client ≡ c → m.marks < 256 → n ≡ j → n ≤ k.replicas
-      → w.register ≡ with_client r c x → IsPermutation w.waiting (copies m j ++ v.waiting)
-      → Reached k (entry o (Accepted c) ms ∷ log) w
-  started_reaches o c x y m kd n j d step few same fits is low high who byte e all reg s =
-      reached_with k (entry o (Accepted c) ms ∷ log) w (with_client r c x) (copies m j ++ v.waiting) _ step reg
-      (register_client k r b c x y (sent kd c y.round d n ++ b.waiting) (omega (arith, k.read.1)) h.register same fits) s
-      (subst (λ q. Same (sent kd c y.round d n ++ q) (map msg_of (copies m j ++ v.waiting))) h.waiting (set_same m kd c y.round d is n j v.waiting e))
-      (All-append (Proper k) (copies m j) v.waiting (copies_proper k m j (omega arith) low high (omega arith) byte) h.proper)
+  same : r.settings ≡ k
+  same = h.register.settings
+
+  reader_few : (c : ℕ) → refuse.no_reader r c ≡ false → c ≤ k.readers
+  reader_few c e = subst (λ a. c ≤ a.readers) same (reader_below r c e)
+
+  module _ (c : ℕ) (few : c ≤ k.readers) where
+    low : c < 65
+    low = omega (arith, k.read.1)
+
+    client : ClientMatches k (client_at r c) (b.clients c)
+    client = h.register.clients.each c low
+
+    present : (client_at r c).out ≡ false → b.client_out c ≡ false
+    present e = sym (h.register.clients.out c low) ∙ e
+
+    -- the round goes up, and the client puts out a set of messages of that kind
+    started_reaches : (o : Order) (x : Client) (y : model.Client) (i : ℕ) (kd : model.Kind) (count : Checked → ℕ)
+        → model.Trace (params_of k) k.initial (entry o (Accepted c) ms ∷ log) (model.sets b c y (sent kd c y.round (model.carried (params_of k) c y) (count k) ++ b.waiting))
+        → x.out ≡ (client_at r c).out → ClientMatches k x y → (1 ≤ i) × (ltb 3 i ≡ false) × (kind_of i ≡ kd) → count k ≤ k.replicas
+        → w.register ≡ with_client r c x → IsPermutation w.waiting (copies (outgoing r.settings i c x) (count r.settings) ++ v.waiting)
+        → Reached k (entry o (Accepted c) ms ∷ log) w
+    started_reaches o x y i kd count step out fits sort all reg s =
+        let m : Message = outgoing r.settings i c x in
+        let new : List Msg = sent kd c y.round (model.carried (params_of k) c y) (count k) in
+        let e : count k ≡ count r.settings = ap count (sym same) in
+        reached_with k (entry o (Accepted c) ms ∷ log) w (with_client r c x) (copies m (count r.settings) ++ v.waiting) _ step reg
+        (register_client k r b c x y (new ++ b.waiting) low h.register out fits) s
+        (subst (λ q. Same (new ++ q) (map msg_of (copies m (count r.settings) ++ v.waiting))) h.waiting (set_same m kd c y.round (model.carried (params_of k) c y) (λ n. cc) (count k) (count r.settings) v.waiting e))
+        (All-append (Proper k) (copies m (count r.settings)) v.waiting (copies_proper k m (count r.settings) (omega (arith, e)) sort.0 (omega (arith, ltb-false 3 i sort.1)) few (mark_byte r.settings c)) h.proper)
 
   pub wrote_reaches : (z : ℤ) → refusal r v.free (Write z) ≡ None → w.register ≡ accepted r (Write z) → IsPermutation w.waiting (put_out r (Write z) ++ v.waiting) → Reached k (entry (Write z) (Accepted 0) ms ∷ log) w
   wrote_reaches z e reg s =
-      let p = write_passed r (leb (sets.all_of r) v.free) z e in
-      let x : Client = client_at r 0 in
-      let y : model.Client = b.clients 0 in
-      let q : ClientMatches k x y = h.register.clients.each 0 (lit< tt) in
-      let few : x.round < 2000000 = p.2 in
-      let up : raised x.round ≡ suc y.round = raised_is x.round y.round q.round (omega arith) in
-      let gone : b.client_out 0 ≡ false = sym (h.register.clients.out 0 (lit< tt)) ∙ p.0 in
-      let idle : y.phase ≡ model.idle = idle_matches k x.phase y.phase p.1 q.phase in
-      let all : r.settings.replicas ≡ k.replicas = ap (λ a. a.replicas) h.register.settings in
-      let value : x.value ≡ y.value = q.value in
-      let same : r.settings ≡ k = h.register.settings in
-      started_reaches (Write z) 0 (starting.writing x z) (model.writing y z) (outgoing r.settings 1 0 (starting.writing x z)) model.writes k.replicas r.settings.replicas
-      (model.carried (params_of k) 0 (model.writing y z)) (model.wrote z ms gone idle t) (omega arith) refl
-      (record { round = up; version = up; value = refl; previous = value; phase = ([], refl, no_receipts_lem (k.replicas - k.tolerated) (omega (arith, three_fit k))); left = omega arith })
-      (λ i. cc) (lit≤ tt) (lit≤ tt) refl (mark_byte r.settings 0) (sym all) (omega arith) reg s
+      let p = write_passed r v.free z e in
+      let few : 0 ≤ k.readers = omega arith in
+      let q : ClientMatches k (client_at r 0) (b.clients 0) = client 0 few in
+      let up : raised (client_at r 0).round ≡ suc (b.clients 0).round = raised_is _ _ q.round (omega (arith, p.2)) in
+      started_reaches 0 few (Write z) (started (client_at r 0) (WriteRound z)) (model.writing (b.clients 0) z) 1 model.writes (λ a. a.replicas) (model.wrote z ms (present 0 few p.0) (idle_matches k _ _ p.1 q.phase) t) refl
+      (record { round = up; version = up; value = refl; previous = q.value; phase = ([], refl, no_receipts_lem (k.replicas - k.tolerated) (omega (arith, three_fit k))); left = omega (arith, p.2) })
+      (lit≤ tt, refl, refl) (omega arith) reg s
 
   pub asked_reaches : (c : ℕ) → refusal r v.free (Read c) ≡ None → w.register ≡ accepted r (Read c) → IsPermutation w.waiting (put_out r (Read c) ++ v.waiting) → Reached k (entry (Read c) (Accepted c) ms ∷ log) w
   asked_reaches zero e reg s = grind arith
   asked_reaches (suc c) e reg s =
-      let p = read_passed r (leb (sets.all_of r) v.free) (suc c) e in
-      let same : r.settings ≡ k = h.register.settings in
-      let readers : r.settings.readers ≡ k.readers = ap (λ a. a.readers) same in
-      let reader : suc c ≤ r.settings.readers = reader_below r (suc c) p.0 in
-      let low : suc c < 65 = omega (arith, k.read.1) in
-      let x : Client = client_at r (suc c) in
-      let y : model.Client = b.clients (suc c) in
-      let q : ClientMatches k x y = h.register.clients.each (suc c) low in
-      let few : x.round < 2000000 = p.3 in
-      let up : raised x.round ≡ suc y.round = raised_is x.round y.round q.round (omega arith) in
-      let gone : b.client_out (suc c) ≡ false = sym (h.register.clients.out (suc c) low) ∙ p.1 in
-      let idle : y.phase ≡ model.idle = idle_matches k x.phase y.phase p.2 q.phase in
-      let all : r.settings.replicas ≡ k.replicas = ap (λ a. a.replicas) same in
-      let version : x.version ≡ y.version = q.version in
-      let value : x.value ≡ y.value = q.value in
-      let previous : x.previous ≡ y.previous = q.previous in
-      started_reaches (Read (suc c)) (suc c) (starting.asking x) (model.asking y model.reads) (outgoing r.settings 2 (suc c) (starting.asking x)) model.reads k.replicas r.settings.replicas
-      (model.carried (params_of k) (suc c) y) (model.asked c ms (omega arith) gone idle t) (omega arith) refl
-      (record { round = up; version = version; value = value; previous = previous; phase = ([], refl, no_readings_lem (k.replicas - k.tolerated) (omega (arith, three_fit k))); left = omega arith })
-      (λ i. cc) (lit≤ tt) (lit≤ tt) refl (mark_byte r.settings (suc c)) (sym all) (omega arith) reg s
+      let p = read_passed r v.free (suc c) e in
+      let few : suc c ≤ k.readers = reader_few (suc c) p.0 in
+      let q : ClientMatches k (client_at r (suc c)) (b.clients (suc c)) = client (suc c) few in
+      let up : raised (client_at r (suc c)).round ≡ suc (b.clients (suc c)).round = raised_is _ _ q.round (omega (arith, p.3)) in
+      started_reaches (suc c) few (Read (suc c)) (started (client_at r (suc c)) (ReadRound (suc c))) (model.asking (b.clients (suc c)) model.reads) 2 model.reads (λ a. a.replicas) (model.asked c ms (omega arith) (present (suc c) few p.1) (idle_matches k _ _ p.2 q.phase) t) refl
+      (record { round = up; version = q.version; value = q.value; previous = q.previous; phase = ([], refl, no_readings_lem (k.replicas - k.tolerated) (omega (arith, three_fit k))); left = omega (arith, p.3) })
+      (lit≤ tt, refl, refl) (omega arith) reg s
 
   pub told_reaches : (c : ℕ) → refusal r v.free (Tell c) ≡ None → w.register ≡ accepted r (Tell c) → IsPermutation w.waiting (put_out r (Tell c) ++ v.waiting) → Reached k (entry (Tell c) (Accepted c) ms ∷ log) w
   told_reaches zero e reg s = grind arith
   told_reaches (suc c) e reg s =
-      let p = tell_passed r (leb (sets.told_of r) v.free) (suc c) e in
-      let same : r.settings ≡ k = h.register.settings in
-      let readers : r.settings.readers ≡ k.readers = ap (λ a. a.readers) same in
-      let reader : suc c ≤ r.settings.readers = reader_below r (suc c) p.0 in
-      let low : suc c < 65 = omega (arith, k.read.1) in
-      let x : Client = client_at r (suc c) in
-      let y : model.Client = b.clients (suc c) in
-      let q : ClientMatches k x y = h.register.clients.each (suc c) low in
-      let due = due_matches k x.phase y.phase x.round p.2 q.phase q.left in
-      let up : raised x.round ≡ suc y.round = raised_is x.round y.round q.round (omega (arith, due.1)) in
-      let gone : b.client_out (suc c) ≡ false = sym (h.register.clients.out (suc c) low) ∙ p.1 in
-      let all : 3 * r.settings.tolerated + 1 ≡ 3 * k.tolerated + 1 = ap (λ a. 3 * a.tolerated + 1) same in
-      let version : x.version ≡ y.version = q.version in
-      let value : x.value ≡ y.value = q.value in
-      let previous : x.previous ≡ y.previous = q.previous in
-      started_reaches (Tell (suc c)) (suc c) (starting.telling x) (model.asking y model.tells) (outgoing r.settings 3 (suc c) (starting.telling x)) model.tells (3 * k.tolerated + 1) (3 * r.settings.tolerated + 1)
-      (model.carried (params_of k) (suc c) y) (model.told c ms (omega arith) gone due.0 t) (omega arith) refl
-      (record { round = up; version = version; value = value; previous = previous; phase = ([], refl, no_receipts_lem (2 * k.tolerated + 1) (omega arith)); left = omega (arith, due.1) })
-      (λ i. cc) (lit≤ tt) (lit≤ tt) refl (mark_byte r.settings (suc c)) (sym all) (omega (arith, three_fit k)) reg s
+      let p = tell_passed r v.free (suc c) e in
+      let few : suc c ≤ k.readers = reader_few (suc c) p.0 in
+      let q : ClientMatches k (client_at r (suc c)) (b.clients (suc c)) = client (suc c) few in
+      let due = due_matches k _ _ _ p.2 q.phase q.left in
+      let up : raised (client_at r (suc c)).round ≡ suc (b.clients (suc c)).round = raised_is _ _ q.round (omega (arith, due.1)) in
+      started_reaches (suc c) few (Tell (suc c)) (started (client_at r (suc c)) (TellRound (suc c))) (model.asking (b.clients (suc c)) model.tells) 3 model.tells (λ a. 3 * a.tolerated + 1) (model.told c ms (omega arith) (present (suc c) few p.1) due.0 t) refl
+      (record { round = up; version = q.version; value = q.value; previous = q.previous; phase = ([], refl, no_receipts_lem (2 * k.tolerated + 1) (omega arith)); left = omega (arith, due.1) })
+      (lit≤ tt, refl, refl) (omega (arith, three_fit k)) reg s
 
 -- ---- withdrawals
 
@@ -315,7 +314,7 @@ module _ (k : Checked) (log : List Entry) (v w : World) (b : model.State) (t : m
       let present : b.replica_out i ≡ false = sym (o.each i few) ∙ p.1 in
       let count : q.outs ≡ model.out_count b.replica_out k.replicas = o.count in
       let less : model.out_count b.replica_out k.replicas < k.tolerated = omega (arith, p.2) in
-      reached_with k (entry (ReplicaOut i) (Accepted i) ms ∷ log) w (calls.replica_gone q i) v.waiting _ (model.replica_gone i ms below present less t) reg
+      reached_with k (entry (ReplicaOut i) (Accepted i) ms ∷ log) w (accepted q (ReplicaOut i)) v.waiting _ (model.replica_gone i ms below present less t) reg
       (record {
         settings = same;
         rows = h.register.rows;
@@ -336,16 +335,16 @@ module _ (k : Checked) (log : List Entry) (v w : World) (b : model.State) (t : m
       let cs : ClientsMatch k q.clients b.clients b.client_out = h.register.clients in
       let x : ClientMatches k (client_at q c) (b.clients c) = cs.each c below in
       let i : c < length q.clients = omega (arith, cs.long) in
-      reached_with k (entry (ClientOut c) (Accepted c) ms ∷ log) w (calls.client_gone q c) v.waiting _ (model.client_gone c ms t) reg
+      reached_with k (entry (ClientOut c) (Accepted c) ms ∷ log) w (accepted q (ClientOut c)) v.waiting _ (model.client_gone c ms t) reg
       (record {
         settings = same;
         rows = h.register.rows;
         outs = h.register.outs;
         clients =
             record {
-              long = length-set q.clients c (calls.gone (client_at q c)) ∙ cs.long;
-              out = each_set (λ z y. z.out ≡ y) 65 q.clients c (calls.gone (client_at q c)) blank_client b.client_out true i refl cs.out;
-              each = each_set_beside (ClientMatches k) 65 q.clients c (calls.gone (client_at q c)) blank_client b.clients i
+              long = length-set q.clients c (gone (client_at q c)) ∙ cs.long;
+              out = each_set (λ z y. z.out ≡ y) 65 q.clients c (gone (client_at q c)) blank_client b.client_out true i refl cs.out;
+              each = each_set_beside (ClientMatches k) 65 q.clients c (gone (client_at q c)) blank_client b.clients i
                   (record { round = x.round; version = x.version; value = x.value; previous = x.previous; phase = x.phase; left = x.left }) cs.each;
             };
       }) s (subst (λ y. Same y (map msg_of v.waiting)) h.waiting (same_self (map msg_of v.waiting))) h.proper

@@ -22,7 +22,8 @@ use Rattle.register.specs.Handle.{is_stray, is_lost, to_replica, handled_reply}
 use Rattle.register.specs.Send.{toward, copies}
 use Rattle.register.specs.Refuse.{refusal}
 use Rattle.register.specs.Calls.{put_out, unless, answer_by}
-use Rattle.client.specs.Start.{outgoing, writing, asking, telling}
+use Rattle.client.specs.declared.start.Round.TheVariants.{Write as WriteRound, Read as ReadRound, Tell as TellRound}
+use Rattle.client.specs.Start.{outgoing, started}
 use Rattle.orders.specs.Order.{named}
 use Rattle.register.specs.World.{World, world, Answered, Called, sent_by, sent_in}
 use Rattle.wire.specs.Channel.{empty}
@@ -114,9 +115,9 @@ called_own : (k : Checked) (v w : World) (o : Order) (a : Answer) (c : ℕ) → 
 called_own k v w o a c s h = by_refusal c (refusal v.register v.free o) (named o) (own_size k o c) (put_out v.register o) a h.answer s
 
 put_out_own : (k : Checked) (r : Register) → r.settings ≡ k → (o : Order) (c : ℕ) → count_by (is_own c) (put_out r o) ≡ own_size k o c
-put_out_own k r e (Write z) c = copies_own c (outgoing r.settings 1 0 (writing (client_at r 0) z)) r.settings.replicas ∙ ap (λ (j : Checked). cond (eqb 0 c) j.replicas 0) e ∙ ap (λ b. cond b k.replicas 0) (eqb_turned 0 c)
-put_out_own k r e (Read d) c = copies_own c (outgoing r.settings 2 d (asking (client_at r d))) r.settings.replicas ∙ ap (λ (j : Checked). cond (eqb d c) j.replicas 0) e ∙ ap (λ b. cond b k.replicas 0) (eqb_turned d c)
-put_out_own k r e (Tell d) c = copies_own c (outgoing r.settings 3 d (telling (client_at r d))) (3 * r.settings.tolerated + 1) ∙ ap (λ (j : Checked). cond (eqb d c) (3 * j.tolerated + 1) 0) e ∙ ap (λ b. cond b (3 * k.tolerated + 1) 0) (eqb_turned d c)
+put_out_own k r e (Write z) c = copies_own c (outgoing r.settings 1 0 (started (client_at r 0) (WriteRound z))) r.settings.replicas ∙ ap (λ (j : Checked). cond (eqb 0 c) j.replicas 0) e ∙ ap (λ b. cond b k.replicas 0) (eqb_turned 0 c)
+put_out_own k r e (Read d) c = copies_own c (outgoing r.settings 2 d (started (client_at r d) (ReadRound d))) r.settings.replicas ∙ ap (λ (j : Checked). cond (eqb d c) j.replicas 0) e ∙ ap (λ b. cond b k.replicas 0) (eqb_turned d c)
+put_out_own k r e (Tell d) c = copies_own c (outgoing r.settings 3 d (started (client_at r d) (TellRound d))) (3 * r.settings.tolerated + 1) ∙ ap (λ (j : Checked). cond (eqb d c) (3 * j.tolerated + 1) 0) e ∙ ap (λ b. cond b (3 * k.tolerated + 1) 0) (eqb_turned d c)
 put_out_own k r e Carry c = refl
 put_out_own k r e (ReplicaOut b) c = refl
 put_out_own k r e (ClientOut d) c = refl

@@ -12,7 +12,7 @@ pub returns-clause-session : goal.returns-clause-session
 returns-clause-session g c =
     let o = c.in_ok-register.ensures in
     let r = c.in_ok-run.ensures in
-    (session_lawful _ _ _ _ _ (record { settings = o.settings; accepted = o.accepted; passed = o.passed; ran = rw o.register at r.0 }), r.1, r.2)
+    (session_lawful _ _ _ _ _ (record { settings = o.settings; accepted = o.accepted; passed = o.passed; ran = rw o.register at r.said }), r.later, r.enough)
 
 pub returns-clause-laws : goal.returns-clause-laws
 returns-clause-laws g c = laws
