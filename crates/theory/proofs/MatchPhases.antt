@@ -1,14 +1,15 @@
 -- What a phase of a client counts, the model counts, and nothing else. It ends in `phase_counts`.
-use Rattle.std.proofs.Common.{◌≡◌, ℕ, suc, ◌+◌, ◌-◌, ◌*◌, ◌<◌, ◌≤◌, true, false, eqb, ◌⊎◌, List, ◌∷◌, length, take, sym, refl, ap, ◌∙◌, subst, inl, inr, arith}
+use Rattle.std.proofs.Common.{◌≡◌, ℕ, suc, ◌+◌, ◌-◌, ◌*◌, ◌<◌, ◌≤◌, true, false, eqb, ◌⊎◌, List, map, reverse, ◌∷◌, length, take, sym, refl, ap, ◌∙◌, subst, inl, inr, arith}
 use Rattle.std.proofs.lemmas.Bool.Decides.{nat_tests}
 use Rattle.std.proofs.lemmas.Bool.{eqb-true, eq-eqb, leb-false}
 use Rattle.wire.specs.declared.message.Message.{Message}
 use Rattle.quorum.specs.Slip.{receipt_of, reading_of}
-use Rattle.quorum.specs.Replies.{with_receipt, with_reading}
+use Rattle.quorum.specs.declared.replies.Replies.{Replies}
+use Rattle.quorum.specs.Tally.{adds}
 use Rattle.settings.specs.declared.checked.Checked.{Checked}
 use Rattle.client.specs.declared.client.Phase.{Phase}
 use Rattle.client.specs.declared.client.Phase.TheVariants.{Idle, Writing, Asking, Due, Telling}
-use Rattle.client.specs.Hear.{awaited, uncounted, joined, is_complete}
+use Rattle.client.specs.Hear.{awaited, uncounted, joined, tallied, quorum_of, is_complete}
 use Rattle.theory.proofs.Sets.{Lacks}
 use Rattle.theory.proofs.Cards.{Slip, replicas_of}
 use Rattle.theory.proofs.Model as model
@@ -36,41 +37,29 @@ kind_number n kd a b e =
 
 -- ---- from the model to the rules
 
+-- what the model counts, the replies of a phase count
+module _ (m : Message) (kd : model.Kind) (ss : List Slip) (from : 4 ≤ m.kind) (to : m.kind ≤ 6) (sort : kind_of m.kind ≡ kd) where
+  replies_count : {X : Type 0} (f : X → ℕ) (rs : Replies X) (s : X) (j : model.Kind) (ts : List Slip)
+      → model.awaiting j ts ≡ model.awaiting kd ss → Lacks (f s) (replicas_of ss) → rs.got < length rs.slips → replicas_of ts ≡ reverse (map f (take rs.got rs.slips))
+      → (eqb m.kind (numbered j) ≡ true) × (adds f rs.slips rs.got s ≡ true)
+  replies_count f rs s j ts e l room same =
+      let kinds : j ≡ kd = cc in
+      let slips : ss ≡ ts = cc in (
+        eq-eqb m.kind (numbered j) (kind_number m.kind j from to (sort ∙ sym kinds)),
+        adds_if_lacks f rs.slips rs.got ts same s room (subst (λ us. Lacks (f s) (replicas_of us)) slips l),
+      )
+
 -- what the model counts, the phase counts
 pub counts_if : (k : Checked) (p : Phase) (q : model.Phase) (m : Message) (kd : model.Kind) (ss : List Slip) → 4 ≤ m.kind → m.kind ≤ 6 → PhasesMatch k p q → q ≡ model.awaiting kd ss → kind_of m.kind ≡ kd → Lacks m.replica (replicas_of ss)
     → (eqb m.kind (awaited p) ≡ true) × (uncounted p m ≡ true)
 counts_if k Idle q m kd ss a b h e n l = grind arith
 counts_if k Due q m kd ss a b h e n l = grind arith
 counts_if k (Writing rs) q m kd ss a b h e n l =
-    let same : model.awaiting model.writes h.0 ≡ model.awaiting kd ss = sym h.1 ∙ e in
-    let ks : model.writes ≡ kd = cc in
-    let sl : ss ≡ h.0 = cc in
-    let r = h.2 in
-    let long : length rs.slips ≡ 32 = r.long in
-    let short : rs.got < k.replicas - k.tolerated = r.short in (
-      eq-eqb m.kind 4 (kind_number m.kind model.writes a b (n ∙ sym ks)),
-      adds_if_lacks (λ x. x.replica) rs.slips rs.got h.0 r.same (receipt_of m) (omega (arith, k.replicated.1)) (subst (λ ts. Lacks m.replica (replicas_of ts)) sl l),
-    )
+    replies_count m kd ss a b n (λ x. x.replica) rs (receipt_of m) model.writes h.0 (sym h.1 ∙ e) l (omega (arith, h.2.long, h.2.short, k.replicated.1)) h.2.same
 counts_if k (Asking rs) q m kd ss a b h e n l =
-    let same : model.awaiting model.reads h.0 ≡ model.awaiting kd ss = sym h.1 ∙ e in
-    let ks : model.reads ≡ kd = cc in
-    let sl : ss ≡ h.0 = cc in
-    let r = h.2 in
-    let long : length rs.slips ≡ 32 = r.long in
-    let short : rs.got < k.replicas - k.tolerated = r.short in (
-      eq-eqb m.kind 5 (kind_number m.kind model.reads a b (n ∙ sym ks)),
-      adds_if_lacks (λ x. x.replica) rs.slips rs.got h.0 (replicas_of_readings (take rs.got rs.slips) h.0 r.counted.same) (reading_of m) (omega (arith, k.replicated.1)) (subst (λ ts. Lacks m.replica (replicas_of ts)) sl l),
-    )
+    replies_count m kd ss a b n (λ x. x.replica) rs (reading_of m) model.reads h.0 (sym h.1 ∙ e) l (omega (arith, h.2.long, h.2.short, k.replicated.1)) (replicas_of_readings (take rs.got rs.slips) h.0 h.2.counted.same)
 counts_if k (Telling rs) q m kd ss a b h e n l =
-    let same : model.awaiting model.tells h.0 ≡ model.awaiting kd ss = sym h.1 ∙ e in
-    let ks : model.tells ≡ kd = cc in
-    let sl : ss ≡ h.0 = cc in
-    let r = h.2 in
-    let long : length rs.slips ≡ 32 = r.long in
-    let short : rs.got < 2 * k.tolerated + 1 = r.short in (
-      eq-eqb m.kind 6 (kind_number m.kind model.tells a b (n ∙ sym ks)),
-      adds_if_lacks (λ x. x.replica) rs.slips rs.got h.0 r.same (receipt_of m) (omega (arith, k.tolerant.1)) (subst (λ ts. Lacks m.replica (replicas_of ts)) sl l),
-    )
+    replies_count m kd ss a b n (λ x. x.replica) rs (receipt_of m) model.tells h.0 (sym h.1 ∙ e) l (omega (arith, h.2.long, h.2.short, k.tolerant.1)) h.2.same
 
 -- ---- from the rules to the model
 
@@ -83,45 +72,30 @@ pub record Progress (k : Checked) (p : Phase) (q : model.Phase) (m : Message) : 
   pub fresh : Lacks m.replica (replicas_of slips)
   pub next : is_complete k (joined p m) ≡ false → PhasesMatch k (joined p m) (model.awaiting kind (model.slip (msg_of m) ∷ slips)) × model.Short (params_of k) kind (model.slip (msg_of m) ∷ slips)
 
+-- one reply more of the kind that is awaited
+progressed : (k : Checked) (p : Phase) (q : model.Phase) (m : Message) (kd : model.Kind) (ss : List Slip)
+    → q ≡ model.awaiting kd ss → eqb m.kind (numbered kd) ≡ true → kind_of (numbered kd) ≡ kd → Lacks m.replica (replicas_of ss) → tallied (joined p m) ≡ suc (length ss)
+    → (suc (length ss) < quorum_of k (joined p m) → PhasesMatch k (joined p m) (model.awaiting kd (model.slip (msg_of m) ∷ ss)) × model.Short (params_of k) kd (model.slip (msg_of m) ∷ ss))
+    → Progress k p q m
+progressed k p q m kd ss awaits e sort fresh total next =
+    record {
+      kind = kd;
+      slips = ss;
+      awaits = awaits;
+      sort = ap kind_of (eqb-true m.kind (numbered kd) e) ∙ sort;
+      fresh = fresh;
+      next = λ f. next (omega (arith, leb-false _ _ f, total));
+    }
+
 pub phase_counts : (k : Checked) (p : Phase) (q : model.Phase) (m : Message) → m.marks < 256 → PhasesMatch k p q → eqb m.kind (awaited p) ≡ true → uncounted p m ≡ true → Progress k p q m
 phase_counts k Idle q m byte h e u = grind arith
 phase_counts k Due q m byte h e u = grind arith
 phase_counts k (Writing rs) q m byte h e u =
     let c : ReceiptsCounted (k.replicas - k.tolerated) rs h.0 m = receipts_counted (k.replicas - k.tolerated) rs h.0 m h.2 u in
-    let total : (with_receipt rs (receipt_of m)).got ≡ suc (length h.0) = c.total in
-    record {
-      kind = model.writes;
-      slips = h.0;
-      awaits = h.1;
-      sort = ap kind_of (eqb-true m.kind 4 e);
-      fresh = c.fresh;
-      next = λ f.
-          let l : (with_receipt rs (receipt_of m)).got < k.replicas - k.tolerated = leb-false _ _ f in
-          ((model.slip (msg_of m) ∷ h.0, refl, c.next (omega arith)), omega arith);
-    }
+    progressed k (Writing rs) q m model.writes h.0 h.1 e refl c.fresh c.total (λ l. ((_, refl, c.next l), omega (arith, l)))
 phase_counts k (Asking rs) q m byte h e u =
     let c : ReadingsCounted (k.replicas - k.tolerated) rs h.0 m = readings_counted (k.replicas - k.tolerated) rs h.0 m byte h.2 u in
-    let total : (with_reading rs (reading_of m)).got ≡ suc (length h.0) = c.total in
-    record {
-      kind = model.reads;
-      slips = h.0;
-      awaits = h.1;
-      sort = ap kind_of (eqb-true m.kind 5 e);
-      fresh = c.fresh;
-      next = λ f.
-          let l : (with_reading rs (reading_of m)).got < k.replicas - k.tolerated = leb-false _ _ f in
-          ((model.slip (msg_of m) ∷ h.0, refl, c.next (omega arith)), omega arith);
-    }
+    progressed k (Asking rs) q m model.reads h.0 h.1 e refl c.fresh c.total (λ l. ((_, refl, c.next l), omega (arith, l)))
 phase_counts k (Telling rs) q m byte h e u =
     let c : ReceiptsCounted (2 * k.tolerated + 1) rs h.0 m = receipts_counted (2 * k.tolerated + 1) rs h.0 m h.2 u in
-    let total : (with_receipt rs (receipt_of m)).got ≡ suc (length h.0) = c.total in
-    record {
-      kind = model.tells;
-      slips = h.0;
-      awaits = h.1;
-      sort = ap kind_of (eqb-true m.kind 6 e);
-      fresh = c.fresh;
-      next = λ f.
-          let l : (with_receipt rs (receipt_of m)).got < 2 * k.tolerated + 1 = leb-false _ _ f in
-          ((model.slip (msg_of m) ∷ h.0, refl, c.next (omega arith)), omega arith);
-    }
+    progressed k (Telling rs) q m model.tells h.0 h.1 e refl c.fresh c.total (λ l. ((_, refl, c.next l), omega (arith, l)))
