@@ -8,5 +8,4 @@ Put a p b q bs false = (length a < p + length bs) × (take p b ≡ take p a)
 
 -- the same, and where they do not fit the length is as it was
 abbrev pub Lined : List ℕ → ℕ → List ℕ → ℕ → List ℕ → Bool → Type 0
-Lined a p b q bs true = (q ≡ p + length bs) × (q ≤ length a) × (take q b ≡ take p a ++ bs)
-Lined a p b q bs false = (length a < p + length bs) × (q ≡ p) × (take p b ≡ take p a)
+Lined a p b q bs fits = Put a p b q bs fits × (fits ≡ false → q ≡ p)
