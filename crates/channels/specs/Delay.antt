@@ -2,13 +2,14 @@
 use Rattle.std.specs.Prelude.{◌≡◌, ℕ, ◌<◌, Bool, true, false, ◌&&◌, ◌⊎◌, List, [], ◌∷◌, ◌++◌, length, ◌+◌, ◌-◌, Some, Ok, Err, Option, Result, ◌==◌, nat_le, nat_lt}
 use Rattle.std.specs.List.Sorted.{IsPermutation}
 use Rattle.wire.specs.declared.message.Message.{Message}
+use Rattle.wire.specs.Kind.{is_request}
 use Rattle.wire.specs.Channel.{Contents, holding}
 use Rattle.channels.specs.Queue.{Oldest}
 use Rattle.channels.specs.declared.delay.Delay.{Delay}
 
--- a message of kind 1 to 3 to the delayed replica, while fewer than 64 are in the pocket
+-- a request to the delayed replica, while fewer than 64 are in the pocket
 abbrev pub is_later : ℕ → ℕ → Message → Bool
-is_later replica n m = nat_le 1 m.kind && (nat_le m.kind 3 && (m.replica == replica && nat_lt n 64))
+is_later replica n m = is_request m.kind && (m.replica == replica && nat_lt n 64)
 
 -- where a message goes: below if one of the room places there is free, else to the end of the pocket, if that is not full
 abbrev pub Entered : {U F : Type 0} → ℕ → List Message → List Message → Message → List Message → List Message → Result U F → Type 0

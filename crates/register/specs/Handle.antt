@@ -1,5 +1,6 @@
 -- What a message does: at its replica, or at its client.
-use Rattle.std.specs.Prelude.{ℕ, Bool, false, cond, ◌||◌, Some, None, Option, nat_le, nat_lt, slice_index_or}
+use Rattle.std.specs.Prelude.{not, ℕ, Bool, false, cond, ◌||◌, Some, None, Option, nat_le, nat_lt, slice_index_or}
+use Rattle.wire.specs.Kind.{is_request, is_reply}
 use Rattle.wire.specs.declared.message.Message.{Message}
 use Rattle.orders.specs.declared.answer.Answer.{Answer}
 use Rattle.orders.specs.declared.answer.Answer.TheVariants.{Replied, Lost, Ignored, Dropped}
@@ -8,25 +9,19 @@ use Rattle.register.specs.declared.register.Register.{Register}
 use Rattle.register.specs.Register.{row_at, client_at, with_row, with_client}
 use Rattle.client.specs.Hear.{heard, heard_answer}
 
--- ---- a reply at its client
-
--- ---- any message at a register
-
 -- no such kind, replica or client
 abbrev pub is_stray : Register → Message → Bool
-is_stray r m = nat_lt m.kind 1 || (nat_lt 6 m.kind || (nat_le r.settings.replicas m.replica || nat_lt r.settings.readers m.client))
-
--- kinds 1 to 3 go to the replica, kinds 4 to 6 to the client
-abbrev pub to_replica : Message → Bool
-to_replica m = nat_le m.kind 3
+is_stray r m =
+    not (is_request m.kind || is_reply m.kind)
+    || (nat_le r.settings.replicas m.replica || nat_lt r.settings.readers m.client)
 
 -- the replica or client addressed is out
 abbrev pub is_lost : Register → Message → Bool
-is_lost r m = cond (to_replica m) (slice_index_or r.out m.replica false) (client_at r m.client).out
+is_lost r m = cond (is_request m.kind) (slice_index_or r.out m.replica false) (client_at r m.client).out
 
 -- by cases: stray, lost, at its replica, at its client
 abbrev pub by_case : {A : Type 0} → Register → Message → A → A → A → A → A
-by_case r m stray lost at_replica at_client = cond (is_stray r m) stray (cond (is_lost r m) lost (cond (to_replica m) at_replica at_client))
+by_case r m stray lost at_replica at_client = cond (is_stray r m) stray (cond (is_lost r m) lost (cond (is_request m.kind) at_replica at_client))
 
 -- the register after a message
 abbrev pub handled : Register → Message → Register

@@ -1,5 +1,6 @@
 -- What a message does to a replica's record.
-use Rattle.std.specs.Prelude.{◌+◌, max, Bool, cond, ◌||◌, Some, None, Option, ◌==◌, bit_or, nat_le, nat_lt, slice_index, slice_set}
+use Rattle.std.specs.Prelude.{not, ◌+◌, max, Bool, cond, ◌||◌, Some, None, Option, ◌==◌, bit_or, nat_le, nat_lt, slice_index, slice_set}
+use Rattle.wire.specs.Kind.{is_request}
 use Rattle.wire.specs.declared.message.Message.{Message}
 use Rattle.replica.specs.declared.row.Row.{Row}
 use Rattle.replica.specs.declared.replica.Replica.{Replica}
@@ -8,9 +9,9 @@ use Rattle.replica.specs.declared.replica.Replica.{Replica}
 abbrev pub plain : Replica → Row
 plain r = record { version = r.version; value = r.value; previous = r.previous; marks = r.marks; note = r.note; rounds = r.rounds }
 
--- a message that no replica acts on: of another kind than write, read and tell, or of a client without a round number here
+-- a message that no replica acts on: no request, or of a client without a round number here
 abbrev pub misdirected : Message → Bool
-misdirected m = nat_lt m.kind 1 || (nat_lt 3 m.kind || nat_le 65 m.client)
+misdirected m = not (is_request m.kind) || nat_le 65 m.client
 
 -- a message whose round is not above the last one heard from its client
 abbrev pub is_stale : Row → Message → Bool

@@ -1,8 +1,9 @@
 -- A message that is taken from the channel: it is never stray, and one that does nothing is lost in the model too. It ends in `lost_reaches`.
-use Rattle.std.proofs.Common.{◌≡◌, ◌≤◌, true, false, ltb, leb, ◌⊎◌, List, [], ◌∷◌, ◌++◌, map, Option, sym, refl, ap, ◌∙◌, subst, arith}
+use Rattle.std.proofs.Common.{◌≡◌, ◌≤◌, true, false, ltb, leb, ◌⊎◌, not, ◌||◌, List, [], ◌∷◌, ◌++◌, map, Option, sym, refl, ap, ◌∙◌, subst, arith}
 use Rattle.std.specs.Option.{option_to_list}
 use Rattle.std.specs.List.{AllByRecursion}
 use Rattle.std.specs.List.Sorted.{IsPermutation}
+use Rattle.std.proofs.lemmas.Bool.Decides.{nat_tests}
 use Rattle.std.proofs.lemmas.Bool.{le-ltb, lt-leb, or_from, cond-true, cond-false}
 use Rattle.wire.specs.declared.message.Message.{Message}
 use Rattle.orders.specs.declared.order.Order.TheVariants.{Carry}
@@ -10,7 +11,8 @@ use Rattle.orders.specs.declared.answer.Answer.{Answer}
 use Rattle.orders.specs.declared.answer.Answer.TheVariants.{Lost}
 use Rattle.settings.specs.declared.checked.Checked.{Checked}
 use Rattle.register.specs.declared.register.Register.{Register}
-use Rattle.register.specs.Handle.{is_stray, is_lost, to_replica, by_case, handled, handled_answer, handled_reply}
+use Rattle.wire.specs.Kind.{is_request, is_reply}
+use Rattle.register.specs.Handle.{is_stray, is_lost, by_case, handled, handled_answer, handled_reply}
 use Rattle.register.specs.World.{World}
 use Rattle.laws.specs.Entries.{Entry}
 use Rattle.theory.proofs.Cards.{Slip}
@@ -35,20 +37,22 @@ pub not_stray : (k : Checked) (r : Register) (m : Message) → r.settings ≡ k 
 not_stray k r m e p =
     let replicas : r.settings.replicas ≡ k.replicas = ap (λ a. a.replicas) e in
     let readers : r.settings.readers ≡ k.readers = ap (λ a. a.readers) e in
-    or_from (ltb m.kind 1) _ (le-ltb m.kind 1 p.low)
-    (or_from (ltb 6 m.kind) _ (le-ltb 6 m.kind p.high)
+    let low : 1 ≤ m.kind = p.low in
+    let high : m.kind ≤ 6 = p.high in
+    let kind : not (is_request m.kind || is_reply m.kind) ≡ false = grind (arith, nat_tests) in
+    or_from _ _ kind
     (or_from (leb r.settings.replicas m.replica) _ (lt-leb r.settings.replicas m.replica (omega (arith, p.replica)))
-    (le-ltb r.settings.readers m.client (omega (arith, p.client)))))
+    (le-ltb r.settings.readers m.client (omega (arith, p.client))))
 
 module _ {A : Type 0} (r : Register) (m : Message) (stray lost at_replica at_client : A) (known : is_stray r m ≡ false) where
   pub case_lost : is_lost r m ≡ true → by_case r m stray lost at_replica at_client ≡ lost
   case_lost e = cond-false (is_stray r m) _ _ known ∙ cond-true (is_lost r m) _ _ e
 
-  pub case_replica : is_lost r m ≡ false → to_replica m ≡ true → by_case r m stray lost at_replica at_client ≡ at_replica
-  case_replica e f = cond-false (is_stray r m) _ _ known ∙ cond-false (is_lost r m) _ _ e ∙ cond-true (to_replica m) _ _ f
+  pub case_replica : is_lost r m ≡ false → is_request m.kind ≡ true → by_case r m stray lost at_replica at_client ≡ at_replica
+  case_replica e f = cond-false (is_stray r m) _ _ known ∙ cond-false (is_lost r m) _ _ e ∙ cond-true (is_request m.kind) _ _ f
 
-  pub case_client : is_lost r m ≡ false → to_replica m ≡ false → by_case r m stray lost at_replica at_client ≡ at_client
-  case_client e f = cond-false (is_stray r m) _ _ known ∙ cond-false (is_lost r m) _ _ e ∙ cond-false (to_replica m) _ _ f
+  pub case_client : is_lost r m ≡ false → is_request m.kind ≡ false → by_case r m stray lost at_replica at_client ≡ at_client
+  case_client e f = cond-false (is_stray r m) _ _ known ∙ cond-false (is_lost r m) _ _ e ∙ cond-false (is_request m.kind) _ _ f
 
 -- ---- a message that does nothing
 

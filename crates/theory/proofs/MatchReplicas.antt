@@ -1,11 +1,11 @@
 -- A message at its replica: lost, stale, or taken and replied to, as in the model. It ends in `replica_reaches`.
-use Rattle.std.proofs.Common.{◌≡◌, ℕ, ◌+◌, ◌<◌, ◌≤◌, min, max, true, false, cond, ◌||◌, eqb, ltb, leb, ◌⊎◌, List, [], ◌∷◌, ◌++◌, map, get_or, set, Some, None, Option, sym, refl, ap, ◌∙◌, subst, inl, inr, arith}
+use Rattle.std.proofs.Common.{◌≡◌, ℕ, ◌+◌, ◌<◌, ◌≤◌, min, max, true, false, not, cond, ◌||◌, eqb, ltb, leb, ◌⊎◌, List, [], ◌∷◌, ◌++◌, map, get_or, set, Some, None, Option, sym, refl, ap, ◌∙◌, subst, inl, inr, arith}
 use lib.Bits.{bit_or, or_lt}
 use Rattle.std.specs.Option.{option_to_list}
 use Rattle.std.specs.List.Sorted.{IsPermutation}
 use Rattle.std.proofs.lemmas.List.{length-set, set-get_or}
 use Rattle.std.proofs.lemmas.Bool.Decides.{nat_tests}
-use Rattle.std.proofs.lemmas.Bool.{cases_Bool, ltb-true, ltb-false, leb-true, leb-false, le-ltb, lt-ltb, lt-leb, le-leb, or_from, or_right, cond_both, cond-true, cond-false}
+use Rattle.std.proofs.lemmas.Bool.{cases_Bool, ltb-true, ltb-false, leb-true, leb-false, le-ltb, lt-ltb, lt-leb, le-leb, or_from, or_right, and_from, cond_both, cond-true, cond-false}
 use Rattle.wire.specs.declared.message.Message.{Message}
 use Rattle.orders.specs.declared.order.Order.TheVariants.{Carry}
 use Rattle.orders.specs.declared.answer.Answer.{Answer}
@@ -16,7 +16,8 @@ use Rattle.replica.specs.Replica.{misdirected, is_stale, is_news, fresh, reply_f
 use Rattle.settings.specs.declared.checked.Checked.{Checked}
 use Rattle.register.specs.declared.register.Register.{Register}
 use Rattle.register.specs.Register.{row_at, with_row, blank_row}
-use Rattle.register.specs.Handle.{is_stray, is_lost, to_replica, handled, handled_answer, handled_reply, replied_or}
+use Rattle.wire.specs.Kind.{is_request}
+use Rattle.register.specs.Handle.{is_stray, is_lost, handled, handled_answer, handled_reply, replied_or}
 use Rattle.register.specs.World.{World}
 use Rattle.laws.specs.Entries.{Entry}
 use Rattle.theory.proofs.Cards.{Card}
@@ -127,8 +128,9 @@ module _ (k : Checked) (r : Register) (b : model.State) (m : Message) (h : Regis
 
   directed : misdirected m ≡ false
   directed =
-      or_from (ltb m.kind 1) (ltb 3 m.kind || leb 65 m.client) (le-ltb m.kind 1 p.low)
-      (or_from (ltb 3 m.kind) (leb 65 m.client) (le-ltb 3 m.kind to) (lt-leb 65 m.client low_client))
+      let low : 1 ≤ m.kind = p.low in
+      let kind : not (is_request m.kind) ≡ false = grind (arith, nat_tests) in
+      or_from _ (leb 65 m.client) kind (lt-leb 65 m.client low_client)
 
   stale_row : is_stale row m ≡ true → (delivered row m ≡ row) × (delivered_reply row m ≡ None)
   stale_row e =
@@ -185,14 +187,14 @@ module _ (k : Checked) (log : List Entry) (w : World) (r : Register) (m : Messag
   known : is_stray r m ≡ false
   known = not_stray k r m g.matches.settings g.proper
 
-  request : to_replica m ≡ true
-  request = le-leb m.kind 3 to
+  request : is_request m.kind ≡ true
+  request = and_from _ _ (le-leb 1 m.kind g.proper.low) (le-leb m.kind 3 to)
 
   place : m.replica < 32
   place = omega (arith, g.proper.replica, k.replicated.1)
 
   out_is : is_lost r m ≡ b.replica_out m.replica
-  out_is = cond-true (to_replica m) _ _ request ∙ g.matches.outs.each m.replica place
+  out_is = cond-true (is_request m.kind) _ _ request ∙ g.matches.outs.each m.replica place
 
   no_reply : ltb 3 m.kind ≡ false
   no_reply = le-ltb 3 m.kind to

@@ -1,9 +1,9 @@
 -- A reply at its client: lost, ignored, counted, or completing its round, as in the model. It ends in `client_reaches`.
-use Rattle.std.proofs.Common.{◌≡◌, ℕ, suc, ◌+◌, ◌-◌, ◌*◌, ◌<◌, ◌≤◌, true, false, cond, ◌&&◌, eqb, ltb, ◌⊎◌, List, [], ◌∷◌, ◌++◌, map, length, take, Option, sym, refl, ap, ◌∙◌, subst, inl, inr, arith}
+use Rattle.std.proofs.Common.{◌≡◌, ℕ, suc, ◌+◌, ◌-◌, ◌*◌, ◌<◌, ◌≤◌, true, false, cond, ◌&&◌, eqb, leb, ltb, ◌⊎◌, List, [], ◌∷◌, ◌++◌, map, length, take, Option, sym, refl, ap, ◌∙◌, subst, inl, inr, arith}
 use Rattle.std.specs.Option.{option_to_list}
 use Rattle.std.specs.List.Sorted.{IsPermutation}
 use Rattle.std.proofs.lemmas.List.{set-get_or, length-reverse, length-map}
-use Rattle.std.proofs.lemmas.Bool.{cases_Bool, eqb-true, eq-eqb, leb-true, lt-leb, lt-ltb, and_parts, and_from, both_ways, cond-true, cond-false}
+use Rattle.std.proofs.lemmas.Bool.{cases_Bool, eqb-true, eq-eqb, leb-true, lt-leb, lt-ltb, and_parts, and_from, and_right, both_ways, cond-true, cond-false}
 use Rattle.wire.specs.declared.message.Message.{Message}
 use Rattle.orders.specs.declared.order.Order.TheVariants.{Carry}
 use Rattle.orders.specs.declared.answer.Answer.{Answer}
@@ -21,7 +21,8 @@ use Rattle.register.specs.declared.register.Register.{Register}
 use Rattle.register.specs.Register.{client_at, with_client, blank_client}
 use Rattle.client.specs.Client.{in_phase}
 use Rattle.client.specs.Hear.{awaited, uncounted, joined, counts, is_complete, heard, heard_answer, completed, completion, completed_in, completion_in, ended_as, shown_by, phase_by, knowing}
-use Rattle.register.specs.Handle.{is_stray, is_lost, to_replica, handled, handled_answer, handled_reply}
+use Rattle.wire.specs.Kind.{is_request}
+use Rattle.register.specs.Handle.{is_stray, is_lost, handled, handled_answer, handled_reply}
 use Rattle.register.specs.World.{World}
 use Rattle.laws.specs.Entries.{Entry}
 use Rattle.theory.proofs.Sets.{Lacks}
@@ -172,14 +173,14 @@ module _ (judge : AllJudged) (k : Checked) (log : List Entry) (w : World) (r : R
   known : is_stray r m ≡ false
   known = not_stray k r m g.matches.settings g.proper
 
-  reply : to_replica m ≡ false
-  reply = lt-leb m.kind 3 from
+  reply : is_request m.kind ≡ false
+  reply = and_right (leb 1 m.kind) _ (lt-leb m.kind 3 from)
 
   place : m.client < 65
   place = omega (arith, g.proper.client, k.read.1)
 
   out_is : is_lost r m ≡ s.client_out m.client
-  out_is = cond-false (to_replica m) _ _ reply ∙ g.matches.clients.out m.client place
+  out_is = cond-false (is_request m.kind) _ _ reply ∙ g.matches.clients.out m.client place
 
   lost_there : is_lost r m ≡ true → Reached k (entry Carry a ms ∷ log) w
   lost_there e = lost_reaches k log w r m rest a ms g answer register sent waiting e (inr (lt-ltb 3 m.kind from, inl (sym out_is ∙ e)))

@@ -1,7 +1,8 @@
 -- What each entry of a past puts into the channel: a whole set of the client's own messages where a write, read or tell is accepted, else none. It ends in regular.
-use Rattle.std.proofs.Common.{◌≡◌, ℕ, zero, suc, ◌+◌, ◌*◌, ◌≤◌, Bool, true, false, cond, ◌&&◌, eqb, leb, List, [], Some, None, count_by, Option, sym, refl, ap, ◌∙◌, subst, inl, inr, arith}
+use Rattle.std.proofs.Common.{◌≡◌, ℕ, zero, suc, ◌+◌, ◌*◌, ◌≤◌, Bool, true, false, not, cond, ◌&&◌, eqb, leb, List, [], Some, None, count_by, Option, sym, refl, ap, ◌∙◌, subst, inl, inr, arith}
 use Rattle.std.specs.List.{AllByRecursion}
 use Rattle.std.proofs.lemmas.List.Sums.{sum_by_push}
+use Rattle.std.proofs.lemmas.Bool.Decides.{nat_tests}
 use Rattle.std.proofs.lemmas.Bool.{cases_Bool, cond_both, lt-leb, and_left, or_parts, ltb-false, eqb-true, eqb-false, eq-eqb, ne_eqb}
 use Rattle.std.specs.Option.{option_to_list}
 use Rattle.wire.specs.declared.message.Message.{Message}
@@ -18,7 +19,8 @@ use Rattle.replica.specs.Row.{record_of}
 use Rattle.settings.specs.declared.checked.Checked.{Checked}
 use Rattle.register.specs.declared.register.Register.{Register}
 use Rattle.register.specs.Register.{opened, row_at, client_at}
-use Rattle.register.specs.Handle.{is_stray, is_lost, to_replica, handled_reply}
+use Rattle.wire.specs.Kind.{is_request}
+use Rattle.register.specs.Handle.{is_stray, is_lost, handled_reply}
 use Rattle.register.specs.Send.{toward, copies}
 use Rattle.register.specs.Refuse.{refusal}
 use Rattle.register.specs.Calls.{put_out, unless, answer_by}
@@ -75,12 +77,15 @@ copies_own c m (suc n) =
     sums true = omega arith
     sums false = refl
 
+request_low : (n : ℕ) → not (is_request n) ≡ false → 1 ≤ n
+request_low n e = grind (arith, nat_tests)
+
 reply_own : (c : ℕ) (r : Row) (m : Message) → count_by (is_own c) (option_to_list (replied r m)) ≡ 0
 reply_own c r m =
     cond_both _ None (Some (reply_from (fresh r m) m)) (λ (o : Option Message). count_by (is_own c) (option_to_list o) ≡ 0)
     (λ e. refl)
     (λ e.
-    let low : 1 ≤ m.kind = ltb-false m.kind 1 (or_parts _ _ (or_parts _ _ e).0).0 in
+    let low : 1 ≤ m.kind = request_low m.kind (or_parts _ _ (or_parts _ _ e).0).0 in
     let high : leb (m.kind + 3) 3 ≡ false = lt-leb (m.kind + 3) 3 (omega arith) in
     let none : is_own c (reply_from (fresh r m) m) ≡ false = and_left _ (eqb m.client c) high in
     simp none)
@@ -89,7 +94,7 @@ handled_own : (c : ℕ) (r : Register) (m : Message) → count_by (is_own c) (op
 handled_own c r m =
     let P : Option Message → Type 0 = λ o. count_by (is_own c) (option_to_list o) ≡ 0 in
     cond_both (is_stray r m) None _ P (λ e. refl)
-    (λ e. cond_both (is_lost r m) None _ P (λ e. refl) (λ e. cond_both (to_replica m) _ None P (λ e. reply_own c (record_of (row_at r m.replica)) m) (λ e. refl)))
+    (λ e. cond_both (is_lost r m) None _ P (λ e. refl) (λ e. cond_both (is_request m.kind) _ None P (λ e. reply_own c (record_of (row_at r m.replica)) m) (λ e. refl)))
 
 -- ---- a call, accepted or sent back
 

@@ -1,6 +1,6 @@
 //! The six kinds of message, by name and by number.
-ghost use Rattle.std.specs.Prelude.{◌≡◌, ◌+◌, nat_le};
-ghost use Rattle.wire.specs.Kind.{kind_of, number_of, Named};
+ghost use Rattle.std.specs.Prelude.{◌≡◌, ◌+◌};
+ghost use Rattle.wire.specs.Kind.{kind_of, number_of, Named, is_request};
 
 /// What a message is about: 1 to 3 ask a replica, 4 to 6 are its replies to a client.
 #[derive(Debug, Clone, Copy, PartialEq, Eq)]
@@ -53,7 +53,7 @@ impl From<Kind> for u8 {
 impl Kind {
     /// Does a message of this kind go to a replica?
     pub fn is_request(self) -> bool
-        ensures { result ≡ nat_le (number_of self) 3 }
+        ensures { result ≡ is_request (number_of self) }
     {
         matches!(self, Kind::Write | Kind::Read | Kind::Tell)
     }
