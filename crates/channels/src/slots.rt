@@ -6,7 +6,6 @@ use wire::channel::{Channel, Full};
 use wire::message::Message;
 
 /// Each slot holds a message or is unused.
-// Stays: a fixed table, since the library allocates nothing.
 #[derive(Drop)]
 pub struct Slots {
     table: [Option<Message>; 256],

@@ -1,4 +1,4 @@
-//! A client starts a round, and what it puts out.
+//! A client opens and starts a round, and what it puts out.
 ghost use Rattle.std.specs.Prelude.{◌≡◌};
 ghost use Rattle.wire.specs.Kind.{number_of};
 ghost use Rattle.client.specs.Client.{opened_client};

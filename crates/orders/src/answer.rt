@@ -62,7 +62,7 @@ pub enum Answer {
 /// An answer as a listing shows it; what the answer has not is 0.
 #[derive(Debug, Clone, Copy, PartialEq, Eq, Default)]
 pub struct Listed {
-    // Stays: a number, since this is what the listing prints; `Answer` has the names.
+    /// as the listing prints it; `Answer` has the names
     pub code: u32,
     pub who: u32,
     pub version: u32,

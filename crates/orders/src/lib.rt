@@ -1,4 +1,4 @@
-//! What is asked of a register and what it answers: settings, orders and answers, with their numbers.
+//! What is asked of a register and what it answers: orders, answers and refusals, with their numbers.
 #![tactic(auto)]
 
 pub mod answer;

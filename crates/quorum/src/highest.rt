@@ -6,7 +6,6 @@ ghost use Rattle.quorum.specs.Highest.{highest_by, notes_at, lowest_at};
 use crate::slip::{Reading, VersionedSlip};
 
 /// The highest version among the slips, 0 where there is none.
-// Stays: the product's rules name this form: a loop over the reply slips.
 pub fn highest<T: VersionedSlip>(slips: &[T]) -> u32
     ensures { result ≡ highest_by T.version_of slips.now }
 {
@@ -18,7 +17,6 @@ pub fn highest<T: VersionedSlip>(slips: &[T]) -> u32
 }
 
 // How many replies have the note h.
-// Stays: the product's rules name this form: a loop over the reply slips.
 pub(crate) fn notes_at(slips: &[Reading], h: u32) -> usize
     ensures { result ≡ notes_at h slips.now }
 {

@@ -37,8 +37,6 @@ pub struct Reading {
     pub note: u32,
 }
 
-// Stays: the product's rules name this form: receipts, readings and reply messages are slips. Three impls of one field, since a macro of
-// one's own may not write an impl.
 impl Slip for Receipt {
     ghost sent_by = { λ s. s.replica };
 

@@ -12,7 +12,7 @@ opened_row z = record { version = 0; value = z; previous = z; marks = 0; note = 
 abbrev pub record_of : Row → Row
 record_of r = record r { note = min r.note r.version }
 
--- the same at a row of the table
+-- a message at a row of the table: its record is made, and stepped
 abbrev pub delivered : Row → Message → Row
 delivered r m = stepped (record_of r) m
 

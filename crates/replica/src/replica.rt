@@ -1,4 +1,4 @@
-//! What a replica works on: how its record is made from its row and written back, and what a message does to it.
+//! A replica's record: how it is made from a row, and what a message does to it.
 ghost use Rattle.std.specs.Prelude.{◌≡◌, ◌+◌, ◌<◌, ◌≤◌, Some};
 ghost use Rattle.wire.specs.Kind.{kind_of, number_of};
 
@@ -7,7 +7,6 @@ use wire::kind::Kind;
 use wire::message::Message;
 
 /// A replica's record: none exists whose note exceeds its version.
-// Stays: no twin of `Row`: the product's rules ask for a plain row in the table, and for a record that cannot be unsound.
 #[derive(Debug, Clone, Copy)]
 pub struct Replica {
     pub(crate) version: u32,

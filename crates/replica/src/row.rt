@@ -29,7 +29,6 @@ impl Row {
     }
 
     /// One message at this row: its record is made, stepped and written back.
-    // Stays: the product's rules name this form: one row is lent to the step, the others stay as they were.
     pub fn deliver(&mut self, m: Message) -> Option<Message>
         ensures after { self.new ≡ delivered self.old m }
         ensures reply { result ≡ delivered_reply self.old m }

@@ -1,4 +1,4 @@
--- What a session makes of a desk.
+-- What a session makes of the memory that is lent.
 use Rattle.std.proofs.Common.{◌≡◌, ℕ, ◌≤◌, length, take, drop, arith}
 use Rattle.std.proofs.lemmas.List.{length-take}
 use Rattle.settings.specs.declared.given.Settings.{Settings}

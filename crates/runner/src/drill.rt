@@ -14,8 +14,8 @@ use sheet::read::{Reading, read};
 use wire::channel::Channel;
 
 // Does the orders that were read, and lists their answers.
-// Stays: the parts one by one and no `Memory`: tried with `memory: &mut Memory` and the reborrows of its fields in here: "it is not proved that what the function ensures holds when it returns (`returns-clause-played`)", since after `&answers[..n]` no fact ties what that reborrow gives back to the answers written.
-// Stays: the product's rules name this form: the faults below come up by `From` and `?`.
+// The parts one by one and no `Memory`, since after `&answers[..n]` no fact ties what a reborrow of its field gives back to the answers
+// that were written.
 fn play<'a, C: Channel>(
     reading: Reading,
     c: &mut C,

@@ -16,7 +16,6 @@ pub enum DrillFault<'a> {
     Register(RegisterFault),
 }
 
-// Stays: the product's rules name this form: the fault below is carried by `From` and turned by `?`.
 impl<'a> From<SheetFault<'a>> for DrillFault<'a> {
     ghost from_gives = { λ a r. r ≡ Sheet a };
 
@@ -42,7 +41,6 @@ impl fmt::Display for DrillFault<'_> {
 }
 
 impl<'a> DrillFault<'a> {
-    // Stays: no plainer as a From: a fault shows a number and a line, each by a method of its name.
     /// 1 to 6 of the register and the channel, 31 to 36 of the sheet and the listing.
     pub fn number(self) -> u32
         ensures { result ≡ fault_number self.entry }

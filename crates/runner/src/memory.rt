@@ -3,7 +3,6 @@ use orders::answer::Answer;
 use orders::order::Order;
 use sheet::page::Position;
 
-// Stays: who lent the parts stands in each contract (`SameLenders`): it ties what is lent after to what was lent before, and a view or an invariant tells of one state alone.
 /// Places for orders and answers, space for a listing, and where the listing stands in it.
 #[derive(Drop)]
 pub struct Memory<'a> {

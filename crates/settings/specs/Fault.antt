@@ -1,4 +1,4 @@
--- The first fault that fits, and the number of each fault of settings.
+-- What it is to fail by a fault, and the number of each fault of settings.
 use Rattle.std.specs.Prelude.{◌≡◌, ℕ, Some, None, Option, Result, MatchResult}
 use Rattle.settings.specs.declared.fault.SettingsFault.{SettingsFault}
 use Rattle.settings.specs.declared.fault.SettingsFault.TheVariants.{Range, Overlap, Initial}

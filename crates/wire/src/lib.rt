@@ -1,4 +1,4 @@
-//! What goes on the wire: messages, their kinds, and the channels that carry them.
+//! Messages, their kinds, and what a channel of them means. No channel stands here.
 #![tactic(auto)]
 
 pub mod channel;

@@ -4,7 +4,7 @@
 /// the client; any other kind goes nowhere. Nothing is promised of the fields: a channel takes any.
 #[derive(Debug, Clone, Copy, PartialEq, Eq, Default)]
 pub struct Message {
-    // Stays: a number, since a channel may hold any byte; `Kind::try_from` gives the kind that it names.
+    /// any byte; `Kind::try_from` gives the kind that it names
     pub kind: u8,
     pub replica: u8,
     pub client: u8,
