@@ -25,9 +25,8 @@ settings_of s t v = record { replicas = s; tolerated = t; groups = v; readers = 
 -- the reply of a replica: at version 1 of the first so many, at version 0 of the others
 abbrev pub reply_of : ℕ → ℕ → ℕ → ℕ → Reading
 reply_of many marks note i =
-    cond (nat_le i many)
-    (record { replica = i; version = 1; value = pos 0; previous = pos 0; marks = marks; note = note })
-    (record { replica = i; version = 0; value = pos 0; previous = pos 0; marks = 0; note = 0 })
+    let old : Reading = record { replica = i; version = 0; value = pos 0; previous = pos 0; marks = 0; note = 0 } in
+    cond (nat_le i many) (record old { version = 1; marks = marks; note = note }) old
 
 -- the replies of four replicas
 abbrev pub replies_of : ℕ → ℕ → ℕ → List Reading

@@ -140,18 +140,14 @@ four =
 -- S = 5, t = 1, V = 2, R = 2, and the same initial value
 abbrev pub five : Checked
 five =
-    record {
+    record four {
       replicas = 5;
-      tolerated = 1;
       groups = 2;
       readers = 2;
-      initial = pos 1000;
       replicated = (lit≤ tt, lit≤ tt);
-      tolerant = (lit≤ tt, lit≤ tt);
       grouped = (lit≤ tt, lit≤ tt);
       read = (lit≤ tt, lit≤ tt);
       overlap = lit< tt;
-      valued = (le_z_yes tt, le_z_yes tt);
     }
 
 -- a write that ends, then a read that shows it in one round

@@ -6,7 +6,7 @@ use Rattle.wire.specs.declared.message.Message.{Message}
 use Rattle.orders.specs.Answer.{listed_as}
 use Rattle.orders.specs.declared.answer.Answer.TheVariants.{Accepted, Counted, BecameDue}
 use Rattle.orders.specs.declared.order.Order.{Order}
-use Rattle.orders.specs.declared.order.Order.TheVariants.{Write, Read, Tell, Carry, ReplicaOut, ClientOut}
+use Rattle.orders.specs.declared.order.Order.TheVariants.{Write, Read, Tell, Carry, ClientOut}
 use Rattle.laws.specs.Entries.{Entry}
 use Rattle.theory.proofs.Cards.{Params, Slip}
 use Rattle.theory.proofs.Model.{put, Kind, writes, reads, Phase, idle, due, awaiting, Client, State, entry, ended, Trace, opening, stirred, refused, wrote, asked, told, delivered, lost, counted, finished, decided, became, replica_gone, client_gone}
@@ -18,12 +18,8 @@ use Rattle.theory.proofs.Progress.{settles}
 use Rattle.theory.proofs.Tracking.{at_below, begins_below, at_more, Open, Track, Apart, Tracked, track_quiet, apart_quiet, open_start, apart_start, the_next, track_end, apart_end, sound_more, faithful}
 
 abbrev IsNoTell : Order → Type 0
-IsNoTell (Write v) = Unit {0}
-IsNoTell (Read c) = Unit {0}
 IsNoTell (Tell c) = ⊥
-IsNoTell Carry = Unit {0}
-IsNoTell (ReplicaOut i) = Unit {0}
-IsNoTell (ClientOut c) = Unit {0}
+IsNoTell _ = Unit {0}
 
 tell_client : {i j : ℕ} → Tell i ≡ Tell j → i ≡ j
 tell_client e = cc

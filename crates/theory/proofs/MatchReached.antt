@@ -6,7 +6,7 @@ use Rattle.std.proofs.lemmas.List.Sorted.{IsPermutation-sym}
 use Rattle.wire.specs.declared.message.Message.{Message}
 use Rattle.orders.specs.declared.order.Order.{Order}
 use Rattle.orders.specs.declared.answer.Refusal.{Refusal}
-use Rattle.orders.specs.declared.answer.Refusal.TheVariants.{Unknown, Withdrawn, Busy, NotDue, ValueRange, RoundLimit, NoRoom, NothingWaits, AlreadyOut, OutLimit}
+use Rattle.orders.specs.declared.answer.Refusal.TheVariants.{Unknown}
 use Rattle.orders.specs.declared.answer.Answer.TheVariants.{Refused}
 use Rattle.settings.specs.declared.checked.Checked.{Checked}
 use Rattle.register.specs.declared.register.Register.{Register}
@@ -53,15 +53,7 @@ reordered k log v b ms t h s =
 
 pub refused_quiet : (x : Refusal) (who : ℕ) → model.Quiet (Refused x who)
 refused_quiet Unknown who = record { not_accepted = refl; not_ended = refl; not_due = refl }
-refused_quiet Withdrawn who = record { not_accepted = refl; not_ended = refl; not_due = refl }
-refused_quiet Busy who = record { not_accepted = refl; not_ended = refl; not_due = refl }
-refused_quiet NotDue who = record { not_accepted = refl; not_ended = refl; not_due = refl }
-refused_quiet ValueRange who = record { not_accepted = refl; not_ended = refl; not_due = refl }
-refused_quiet RoundLimit who = record { not_accepted = refl; not_ended = refl; not_due = refl }
-refused_quiet NoRoom who = record { not_accepted = refl; not_ended = refl; not_due = refl }
-refused_quiet NothingWaits who = record { not_accepted = refl; not_ended = refl; not_due = refl }
-refused_quiet AlreadyOut who = record { not_accepted = refl; not_ended = refl; not_due = refl }
-refused_quiet OutLimit who = record { not_accepted = refl; not_ended = refl; not_due = refl }
+refused_quiet _ who = record { not_accepted = refl; not_ended = refl; not_due = refl }
 
 pub refused_reaches : (k : Checked) (log : List Entry) (v w : World) (b : model.State) (o : Order) (x : Refusal) (who : ℕ) (ms : List Message) → model.Trace (params_of k) k.initial log b → Matches k v b
     → w.register ≡ v.register → IsPermutation w.waiting v.waiting → Reached k (entry o (Refused x who) ms ∷ log) w

@@ -34,7 +34,7 @@ use Rattle.theory.proofs.MatchCarried.{Taken, not_stray, case_replica, nothing_r
 record_is_row : (r : Row) → r.note ≤ r.version → record_of r ≡ r
 record_is_row r h =
     let e : min r.note r.version ≡ r.note = omega arith in
-    ap (λ (n : ℕ). record { version = r.version; value = r.value; previous = r.previous; marks = r.marks; note = n; rounds = r.rounds }) e
+    ap (λ (n : ℕ). record r { note = n }) e
 
 -- a card as a fresh message leaves it, but for the note
 abbrev fresh_card : Row → Message → ℕ → Card

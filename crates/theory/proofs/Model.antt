@@ -54,13 +54,13 @@ pub record State : Type 0 where
 abbrev pub taken : Card → Card → Card
 taken c l =
     cond (ltb c.version l.version)
-    (record { version = l.version; value = l.value; previous = l.previous; marks = l.marks; note = c.note })
-    (record { version = c.version; value = c.value; previous = c.previous; marks = bit_or c.marks l.marks; note = c.note })
+    (record l { note = c.note })
+    (record c { marks = bit_or c.marks l.marks })
 
 abbrev pub noting : Kind → ℕ → Card → Card
 noting writes v c = c
 noting reads v c = c
-noting tells v c = record { version = c.version; value = c.value; previous = c.previous; marks = c.marks; note = max c.note v }
+noting tells v c = record c { note = max c.note v }
 
 abbrev pub after : Card → Msg → Card
 after c l = noting l.kind l.card.version (taken c l.card)
@@ -97,33 +97,30 @@ entry o a ms = record { order = o; answer = a; sent = ms }
 -- ---- changes of a state
 
 abbrev pub sets : State → ℕ → Client → List Msg → State
-sets b c x w = record { replicas = b.replicas; heard = b.heard; replica_out = b.replica_out; clients = put b.clients c x; client_out = b.client_out; waiting = w }
+sets b c x w = record b { clients = put b.clients c x; waiting = w }
 
 abbrev pub drops : State → List Msg → State
-drops b w = record { replicas = b.replicas; heard = b.heard; replica_out = b.replica_out; clients = b.clients; client_out = b.client_out; waiting = w }
+drops b w = record b { waiting = w }
 
 abbrev pub answers : Card → Msg → Msg
-answers c l = record { reply = true; kind = l.kind; replica = l.replica; client = l.client; round = l.round; card = after c l }
+answers c l = record l { reply = true; card = after c l }
 
 abbrev pub delivers : State → Msg → List Msg → State
 delivers b l w =
-    record {
+    record b {
       replicas = put b.replicas l.replica (after (b.replicas l.replica) l);
       heard = put b.heard l.replica (put (b.heard l.replica) l.client l.round);
-      replica_out = b.replica_out;
-      clients = b.clients;
-      client_out = b.client_out;
       waiting = answers (b.replicas l.replica) l ∷ w;
     }
 
 abbrev pub phased : Client → Phase → Client
-phased x p = record { round = x.round; version = x.version; value = x.value; previous = x.previous; phase = p }
+phased x p = record x { phase = p }
 
 abbrev pub writing : Client → ℤ → Client
 writing x f = record { round = suc x.round; version = suc x.round; value = f; previous = x.value; phase = awaiting writes [] }
 
 abbrev pub asking : Client → Kind → Client
-asking x k = record { round = suc x.round; version = x.version; value = x.value; previous = x.previous; phase = awaiting k [] }
+asking x k = record x { round = suc x.round; phase = awaiting k [] }
 
 -- the client as it knows what the slips say
 pub record Learnt (ss : List Slip) (x y : Client) : Type 0 where
@@ -206,6 +203,6 @@ pub data Trace (g : Params) (f : ℤ) : List Entry → State → Type 0 where
       → g.replicas ≡ length (slip l ∷ ss) + g.tolerated → Learnt (slip l ∷ ss) (b.clients l.client) y → y.phase ≡ due → Decision g (slip l ∷ ss) shown true → Trace g f log b
       → Trace g f (entry Carry (BecameDue l.client) ms ∷ log) (sets b l.client y w)
   replica_gone : {log : List Entry} {b : State} (i : ℕ) (ms : List Message) → i < g.replicas → b.replica_out i ≡ false → out_count b.replica_out g.replicas < g.tolerated → Trace g f log b
-      → Trace g f (entry (ReplicaOut i) (Accepted i) ms ∷ log) (record { replicas = b.replicas; heard = b.heard; replica_out = put b.replica_out i true; clients = b.clients; client_out = b.client_out; waiting = b.waiting })
+      → Trace g f (entry (ReplicaOut i) (Accepted i) ms ∷ log) (record b { replica_out = put b.replica_out i true })
   client_gone : {log : List Entry} {b : State} (c : ℕ) (ms : List Message) → Trace g f log b
-      → Trace g f (entry (ClientOut c) (Accepted c) ms ∷ log) (record { replicas = b.replicas; heard = b.heard; replica_out = b.replica_out; clients = b.clients; client_out = put b.client_out c true; waiting = b.waiting })
+      → Trace g f (entry (ClientOut c) (Accepted c) ms ∷ log) (record b { client_out = put b.client_out c true })

@@ -5,7 +5,7 @@ use Rattle.std.specs.List.{AllByRecursion}
 use Rattle.std.proofs.lemmas.List.{length_push}
 use Rattle.std.proofs.lemmas.Bool.{cases_order}
 use Rattle.orders.specs.declared.order.Order.{Order}
-use Rattle.orders.specs.declared.order.Order.TheVariants.{Write, Read, Tell, Carry, ReplicaOut, ClientOut}
+use Rattle.orders.specs.declared.order.Order.TheVariants.{Write, Read, Tell, ClientOut}
 use Rattle.orders.specs.Answer.{listed_as}
 use Rattle.laws.specs.Entries.{Entry}
 use Rattle.laws.specs.Operations as entries
@@ -87,10 +87,7 @@ NoReadOfWriter e = entries.code e ≡ 100 → e.order ≡ Read 0 → ⊥
 pub calls_same : (o : Order) (c d : ℕ) → Calls o c → Calls o d → c ≡ d
 calls_same (Write v) c d p q = p ∙ sym q
 calls_same (Read r) c d p q = p ∙ sym q
-calls_same (Tell r) c d p q = absurd p
-calls_same Carry c d p q = absurd p
-calls_same (ReplicaOut r) c d p q = absurd p
-calls_same (ClientOut r) c d p q = absurd p
+calls_same _ c d p q = absurd p
 
 pub begins_same : (log : List Entry) (c d i : ℕ) → BeginsAt log c i → BeginsAt log d i → c ≡ d
 begins_same log c d i b b' =
@@ -156,10 +153,7 @@ module _ (log : List Entry) where
         go : (o : Order) → e.order ≡ o → Calls o 0 → (z : ℤ) × (e.order ≡ Write z)
         go (Write z) p q = (z, p)
         go (Read d) p q = absurd (all_at_lem NoReadOfWriter log i e none a s.0 (p ∙ ap Read (sym q)))
-        go (Tell d) p q = absurd q
-        go Carry p q = absurd q
-        go (ReplicaOut d) p q = absurd q
-        go (ClientOut d) p q = absurd q
+        go _ p q = absurd q
 
     pub read_at : (c i : ℕ) (e : Entry) → At log i e → Starts c e → (c ≡ 0 → ⊥) → e.order ≡ Read c
     read_at c i e a s reader = go e.order refl s.1
@@ -167,7 +161,4 @@ module _ (log : List Entry) where
         go : (o : Order) → e.order ≡ o → Calls o c → e.order ≡ Read c
         go (Write z) p q = absurd (reader q)
         go (Read d) p q = p ∙ ap Read (sym q)
-        go (Tell d) p q = absurd q
-        go Carry p q = absurd q
-        go (ReplicaOut d) p q = absurd q
-        go (ClientOut d) p q = absurd q
+        go _ p q = absurd q

@@ -9,7 +9,7 @@ use Rattle.wire.specs.declared.message.Message.{Message}
 use Rattle.orders.specs.declared.order.Order.{Order}
 use Rattle.orders.specs.declared.order.Order.TheVariants.{Write, Read, Tell, Carry, ReplicaOut, ClientOut}
 use Rattle.orders.specs.declared.answer.Refusal.{Refusal}
-use Rattle.orders.specs.declared.answer.Refusal.TheVariants.{Unknown, Withdrawn, Busy, NotDue, ValueRange, RoundLimit, NoRoom, NothingWaits, AlreadyOut, OutLimit}
+use Rattle.orders.specs.declared.answer.Refusal.TheVariants.{Unknown}
 use Rattle.orders.specs.declared.answer.Answer.{Answer}
 use Rattle.orders.specs.declared.answer.Answer.TheVariants.{Refused}
 use Rattle.orders.specs.Answer.{listed_as, number_of}
@@ -42,9 +42,7 @@ abbrev pub own_size : Checked → Order → ℕ → ℕ
 own_size k (Write z) c = cond (eqb c 0) k.replicas 0
 own_size k (Read d) c = cond (eqb c d) k.replicas 0
 own_size k (Tell d) c = cond (eqb c d) (3 * k.tolerated + 1) 0
-own_size k Carry c = 0
-own_size k (ReplicaOut b) c = 0
-own_size k (ClientOut d) c = 0
+own_size k _ c = 0
 
 -- an entry puts out a whole set or nothing of a client's own, and no read of client 0 is accepted
 pub record Regular (k : Checked) (e : Entry) : Type 0 where
@@ -100,15 +98,7 @@ handled_own c r m =
 
 refusal_code : (x : Refusal) → eqb (number_of x) 100 ≡ false
 refusal_code Unknown = refl
-refusal_code Withdrawn = refl
-refusal_code Busy = refl
-refusal_code NotDue = refl
-refusal_code ValueRange = refl
-refusal_code RoundLimit = refl
-refusal_code NoRoom = refl
-refusal_code NothingWaits = refl
-refusal_code AlreadyOut = refl
-refusal_code OutLimit = refl
+refusal_code _ = refl
 
 by_refusal : (c : ℕ) (x : Option Refusal) (who size : ℕ) (out : List Message) (a : Answer) → a ≡ answer_by x who → count_by (is_own c) out ≡ size
     → count_by (is_own c) (unless x out []) ≡ cond (eqb (listed_as a).code 100) size 0
@@ -123,9 +113,7 @@ put_out_own : (k : Checked) (r : Register) → r.settings ≡ k → (o : Order) 
 put_out_own k r e (Write z) c = copies_own c (outgoing r.settings 1 0 (started (client_at r 0) (WriteRound z))) r.settings.replicas ∙ ap (λ (j : Checked). cond (eqb 0 c) j.replicas 0) e ∙ ap (λ b. cond b k.replicas 0) (eqb_turned 0 c)
 put_out_own k r e (Read d) c = copies_own c (outgoing r.settings 2 d (started (client_at r d) (ReadRound d))) r.settings.replicas ∙ ap (λ (j : Checked). cond (eqb d c) j.replicas 0) e ∙ ap (λ b. cond b k.replicas 0) (eqb_turned d c)
 put_out_own k r e (Tell d) c = copies_own c (outgoing r.settings 3 d (started (client_at r d) (TellRound d))) (3 * r.settings.tolerated + 1) ∙ ap (λ (j : Checked). cond (eqb d c) (3 * j.tolerated + 1) 0) e ∙ ap (λ b. cond b (3 * k.tolerated + 1) 0) (eqb_turned d c)
-put_out_own k r e Carry c = refl
-put_out_own k r e (ReplicaOut b) c = refl
-put_out_own k r e (ClientOut d) c = refl
+put_out_own k r e _ c = refl
 
 -- ---- every step
 

@@ -5,7 +5,7 @@ use Rattle.std.proofs.lemmas.List.{length_push, length-drop, drop-append-le, dro
 use Rattle.std.proofs.lemmas.List.Sums.{sum_by_push}
 use Rattle.std.proofs.lemmas.Bool.{cases_Bool, cond-true, cond-false, lt-ltb, eqb-true}
 use Rattle.orders.specs.declared.order.Order.{Order}
-use Rattle.orders.specs.declared.order.Order.TheVariants.{Write, Read, Tell, Carry, ReplicaOut, ClientOut}
+use Rattle.orders.specs.declared.order.Order.TheVariants.{Write, Read, Tell}
 use Rattle.orders.specs.Answer.{listed_as}
 use Rattle.settings.specs.declared.checked.Checked.{Checked}
 use Rattle.laws.specs.Entries.{Entry}
@@ -101,9 +101,7 @@ module _ (k : Checked) (c : ℕ) (es : List Entry) (x : Entry) where
         | inl p ↦ simp (p, sym (ap s (eqb-true c d p))) (tallied_tell (b c) (s c) (e ∙ cond-true _ _ _ p) t)
         | inr p ↦ simp p (tallied_quiet (b c) (s c) (e ∙ cond-false _ _ _ p) t)
       ]
-  tallied_by Carry b s e t = tallied_quiet (b c) (s c) e t
-  tallied_by (ReplicaOut i) b s e t = tallied_quiet (b c) (s c) e t
-  tallied_by (ClientOut d) b s e t = tallied_quiet (b c) (s c) e t
+  tallied_by _ b s e t = tallied_quiet (b c) (s c) e t
 
   -- the places of a call that ended do not move
   span_push : (i j : ℕ) → i ≤ j → j < length es → span (es ++ x ∷ []) i j ≡ span es i j

@@ -5,7 +5,7 @@ use Rattle.std.proofs.lemmas.List.{take-append-le, take_at}
 use Rattle.std.proofs.lemmas.List.Sums.{sum_by_push}
 use Rattle.std.proofs.lemmas.Bool.{cases_Bool, cond-true, cond-false, eqb-true, eq-eqb, ne_eqb}
 use Rattle.orders.specs.declared.order.Order.{Order}
-use Rattle.orders.specs.declared.order.Order.TheVariants.{Write, Read, Tell, Carry, ReplicaOut, ClientOut}
+use Rattle.orders.specs.declared.order.Order.TheVariants.{Write, Read}
 use Rattle.orders.specs.Answer.{listed_as}
 use Rattle.laws.specs.Entries.{Entry}
 use Rattle.laws.specs.Operations.{code, is_write, writes_before}
@@ -17,11 +17,7 @@ use Rattle.theory.proofs.Places.{oldest, length_oldest, NoReadOfWriter, write_at
 
 writes_by : (o : Order) (vs : List ℤ) → length (values_by o vs) ≡ length vs + cond (is_write o) 1 0
 writes_by (Write z) vs = omega arith
-writes_by (Read c) vs = omega arith
-writes_by (Tell c) vs = omega arith
-writes_by Carry vs = omega arith
-writes_by (ReplicaOut b) vs = omega arith
-writes_by (ClientOut c) vs = omega arith
+writes_by _ vs = omega arith
 
 writes_all : (log : List Entry) → count_by (λ e. eqb (code e) 100 && is_write e.order) (oldest log) ≡ length (values log)
 writes_all [] = refl
@@ -68,11 +64,7 @@ values_cases x log =
   where
     by_order : (o : Order) → (values_by o (values log) ≡ values log) ⊎ ((z : ℤ) × (values_by o (values log) ≡ z ∷ values log))
     by_order (Write z) = inr (z, refl)
-    by_order (Read c) = inl refl
-    by_order (Tell c) = inl refl
-    by_order Carry = inl refl
-    by_order (ReplicaOut b) = inl refl
-    by_order (ClientOut c) = inl refl
+    by_order _ = inl refl
 
 values_write : (x : Entry) (log : List Entry) (z : ℤ) → code x ≡ 100 → x.order ≡ Write z → values (x ∷ log) ≡ z ∷ values log
 values_write x log z c e = cond-true _ _ _ (eq-eqb _ 100 c) ∙ ap (λ (o : Order). values_by o (values log)) e
@@ -140,10 +132,7 @@ last_more x log none last h =
     by_order : (o : Order) → (o ≡ Read 0 → ⊥) → (Calls o 0 × (begun_by o (length log) (begun log) 0 ≡ length log) × (length (values_by o (values log)) ≡ suc (length (values log)))) ⊎ ((values_by o (values log) ≡ values log) × (begun_by o (length log) (begun log) 0 ≡ begun log 0))
     by_order (Write z) n = inl (refl, refl, refl)
     by_order (Read c) n = inr (refl, cond-false _ _ _ (ne_eqb 0 c (λ q. n (ap Read (sym q)))))
-    by_order (Tell c) n = inr (refl, refl)
-    by_order Carry n = inr (refl, refl)
-    by_order (ReplicaOut b) n = inr (refl, refl)
-    by_order (ClientOut c) n = inr (refl, refl)
+    by_order _ n = inr (refl, refl)
 
     accepted : code x ≡ 100 → (Calls x.order 0 × (begun_by x.order (length log) (begun log) 0 ≡ length log) × (length (values_by x.order (values log)) ≡ suc (length (values log)))) ⊎ ((values_by x.order (values log) ≡ values log) × (begun_by x.order (length log) (begun log) 0 ≡ begun log 0))
         → WriteNo (x ∷ log) (begun (x ∷ log) 0) (length (values (x ∷ log)))
