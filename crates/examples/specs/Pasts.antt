@@ -1,5 +1,5 @@
 -- Concrete pasts: a list of moves gives its entries by the rules, and five such lists with the answers that they give.
-use Rattle.std.specs.Prelude.{◌≡◌, ℕ, zero, suc, ◌+◌, ◌-◌, ◌≤◌, List, [], ◌∷◌, ◌++◌, map, length, pos}
+use Rattle.std.specs.Prelude.{◌≡◌, ℕ, zero, suc, ◌+◌, ◌-◌, ◌≤◌, List, [], ◌∷◌, ◌++◌, map, length, replicate, pos}
 use Rattle.std.proofs.Common.{lit≤, lit<}
 use Rattle.std.specs.Int.Signed.{le_z_yes}
 use Rattle.std.specs.List.{AllByRecursion}
@@ -114,6 +114,14 @@ reached v (x ∷ xs) = reached (next v x) xs
 abbrev pub shown : ℕ → ℕ → ℕ → ℕ → Listed
 shown c v z n = record { code = 105; who = c; version = v; value = pos z; rounds = n }
 
+-- an order, with the answer expected
+abbrev pub calls : Order → Listed → List (Move × Listed)
+calls o a = (call o, a) ∷ []
+
+-- so many carries of the i-th waiting message, with the answer expected of each
+abbrev pub gives : ℕ → ℕ → Listed → List (Move × Listed)
+gives n i a = replicate n (give i, a)
+
 -- settings, free places, and moves with the answers expected
 pub record Example : Type 0 where
   pub settings : Checked
@@ -153,107 +161,49 @@ five =
 -- a write that ends, then a read that shows it in one round
 abbrev pub shown_at_once : List (Move × Listed)
 shown_at_once =
-    (call (Write (pos 1200)), bare_of 100 0)
-    ∷ (give 0, bare_of 101 0)
-    ∷ (give 0, bare_of 101 0)
-    ∷ (give 0, bare_of 101 0)
-    ∷ (give 1, bare_of 104 0)
-    ∷ (give 1, bare_of 104 0)
-    ∷ (give 1, shown 0 1 1200 1)
-    ∷ (call (Read 1), bare_of 100 1)
-    ∷ (give 1, bare_of 101 1)
-    ∷ (give 1, bare_of 101 1)
-    ∷ (give 1, bare_of 101 1)
-    ∷ (give 2, bare_of 104 1)
-    ∷ (give 2, bare_of 104 1)
-    ∷ (give 2, shown 1 1 1200 1)
-    ∷ []
+    calls (Write (pos 1200)) (bare_of 100 0)
+    ++ gives 3 0 (bare_of 101 0) ++ gives 2 1 (bare_of 104 0) ++ gives 1 1 (shown 0 1 1200 1)
+    ++ calls (Read 1) (bare_of 100 1)
+    ++ gives 3 1 (bare_of 101 1) ++ gives 2 2 (bare_of 104 1) ++ gives 1 2 (shown 1 1 1200 1)
 
 -- three replicas know the write and a fourth does not: the read is due, tells, and ends in its second round
 abbrev pub two_rounds : List (Move × Listed)
 two_rounds =
-    (call (Write (pos 1200)), bare_of 100 0)
-    ∷ (give 0, bare_of 101 0)
-    ∷ (give 0, bare_of 101 0)
-    ∷ (give 0, bare_of 101 0)
-    ∷ (call (Read 1), bare_of 100 1)
-    ∷ (give 5, bare_of 101 1)
-    ∷ (give 5, bare_of 101 1)
-    ∷ (give 5, bare_of 101 1)
-    ∷ (give 5, bare_of 101 1)
-    ∷ (give 6, bare_of 104 1)
-    ∷ (give 6, bare_of 104 1)
-    ∷ (give 6, bare_of 104 1)
-    ∷ (give 6, bare_of 106 1)
-    ∷ (call (Tell 1), bare_of 100 1)
-    ∷ (give 6, bare_of 101 1)
-    ∷ (give 6, bare_of 101 1)
-    ∷ (give 6, bare_of 101 1)
-    ∷ (give 7, bare_of 104 1)
-    ∷ (give 7, bare_of 104 1)
-    ∷ (give 7, shown 1 1 1200 2)
-    ∷ []
+    calls (Write (pos 1200)) (bare_of 100 0)
+    ++ gives 3 0 (bare_of 101 0)
+    ++ calls (Read 1) (bare_of 100 1)
+    ++ gives 4 5 (bare_of 101 1) ++ gives 3 6 (bare_of 104 1) ++ gives 1 6 (bare_of 106 1)
+    ++ calls (Tell 1) (bare_of 100 1)
+    ++ gives 3 6 (bare_of 101 1) ++ gives 2 7 (bare_of 104 1) ++ gives 1 7 (shown 1 1 1200 2)
 
 -- the second write has reached one replica: the read shows the first
 abbrev pub shown_previous : List (Move × Listed)
 shown_previous =
-    (call (Write (pos 1200)), bare_of 100 0)
-    ∷ (give 0, bare_of 101 0)
-    ∷ (give 0, bare_of 101 0)
-    ∷ (give 0, bare_of 101 0)
-    ∷ (give 1, bare_of 104 0)
-    ∷ (give 1, bare_of 104 0)
-    ∷ (give 1, shown 0 1 1200 1)
-    ∷ (call (Write (pos 1300)), bare_of 100 0)
-    ∷ (give 1, bare_of 101 0)
-    ∷ (call (Read 1), bare_of 100 1)
-    ∷ (give 5, bare_of 101 1)
-    ∷ (give 5, bare_of 101 1)
-    ∷ (give 5, bare_of 101 1)
-    ∷ (give 6, bare_of 104 1)
-    ∷ (give 6, bare_of 104 1)
-    ∷ (give 6, shown 1 1 1200 1)
-    ∷ []
+    calls (Write (pos 1200)) (bare_of 100 0)
+    ++ gives 3 0 (bare_of 101 0) ++ gives 2 1 (bare_of 104 0) ++ gives 1 1 (shown 0 1 1200 1)
+    ++ calls (Write (pos 1300)) (bare_of 100 0)
+    ++ gives 1 1 (bare_of 101 0)
+    ++ calls (Read 1) (bare_of 100 1)
+    ++ gives 3 5 (bare_of 101 1) ++ gives 2 6 (bare_of 104 1) ++ gives 1 6 (shown 1 1 1200 1)
 
 -- the writer is withdrawn while it writes, and a replica with it: the read ends and shows that write, and then nothing waits
 abbrev pub ended_without : List (Move × Listed)
 ended_without =
-    (call (Write (pos 1200)), bare_of 100 0)
-    ∷ (give 0, bare_of 101 0)
-    ∷ (call (ReplicaOut 3), bare_of 100 3)
-    ∷ (call (ClientOut 0), bare_of 100 0)
-    ∷ (call (Read 1), bare_of 100 1)
-    ∷ (call (Write (pos 1300)), bare_of 12 0)
-    ∷ (call (ReplicaOut 2), bare_of 20 2)
-    ∷ (give 0, bare_of 101 0)
-    ∷ (give 0, bare_of 101 0)
-    ∷ (give 0, bare_of 102 0)
-    ∷ (give 0, bare_of 102 0)
-    ∷ (give 0, bare_of 101 1)
-    ∷ (give 0, bare_of 101 1)
-    ∷ (give 0, bare_of 101 1)
-    ∷ (give 0, bare_of 102 1)
-    ∷ (give 0, bare_of 102 0)
-    ∷ (give 0, bare_of 102 0)
-    ∷ (give 0, bare_of 104 1)
-    ∷ (give 0, bare_of 104 1)
-    ∷ (give 0, shown 1 1 1200 1)
-    ∷ (give 0, bare_of 18 0)
-    ∷ []
+    calls (Write (pos 1200)) (bare_of 100 0)
+    ++ gives 1 0 (bare_of 101 0)
+    ++ calls (ReplicaOut 3) (bare_of 100 3) ++ calls (ClientOut 0) (bare_of 100 0)
+    ++ calls (Read 1) (bare_of 100 1) ++ calls (Write (pos 1300)) (bare_of 12 0)
+    ++ calls (ReplicaOut 2) (bare_of 20 2)
+    ++ gives 2 0 (bare_of 101 0) ++ gives 2 0 (bare_of 102 0) ++ gives 3 0 (bare_of 101 1) ++ gives 1 0 (bare_of 102 1)
+    ++ gives 2 0 (bare_of 102 0) ++ gives 2 0 (bare_of 104 1) ++ gives 1 0 (shown 1 1 1200 1)
+    ++ gives 1 0 (bare_of 18 0)
 
 -- the messages in the order in which they were put in, and a write while another is under way
 abbrev pub oldest_first : List (Move × Listed)
 oldest_first =
-    (call (Write (pos 1200)), bare_of 100 0)
-    ∷ (call (Write (pos 5)), bare_of 13 0)
-    ∷ (give 0, bare_of 101 0)
-    ∷ (give 0, bare_of 101 0)
-    ∷ (give 0, bare_of 101 0)
-    ∷ (give 0, bare_of 101 0)
-    ∷ (give 0, bare_of 104 0)
-    ∷ (give 0, bare_of 104 0)
-    ∷ (give 0, shown 0 1 1200 1)
-    ∷ []
+    calls (Write (pos 1200)) (bare_of 100 0)
+    ++ calls (Write (pos 5)) (bare_of 13 0)
+    ++ gives 4 0 (bare_of 101 0) ++ gives 2 0 (bare_of 104 0) ++ gives 1 0 (shown 0 1 1200 1)
 
 -- the five, each with its settings and the free places of its channel
 abbrev pub examples : List Example
