@@ -8,6 +8,7 @@ use Rattle.runner.specs.Memory.{Memory}
 use Rattle.runner.specs.Rehearse.{Rehearsed}
 use Rattle.runner.specs.Choice.{room_of}
 use Rattle.runner.specs.declared.choice.Choice.{Choice}
+use Rattle.console.specs.Sizes.{queue_cells, places, sheet_bytes, listing_bytes}
 use Rattle.console.specs.Print.{Told, told, Prints}
 
 -- what was written of the bytes that tell of a sheet
@@ -17,14 +18,14 @@ prints choice sheet text old new (Err e) t wrote = tt
 prints choice sheet text old new (Ok x) t wrote = (text, t, wrote)
 
 pub prints_of : {A E : Type 0} (choice : Choice) (given : Option (List ℕ)) (sheet : List ℕ) (old new : Option (List ℕ)) (r : Result A E)
-    → IfSome given (λ xs. sheet ≡ take 65536 xs) → OnOk r (Prints choice sheet old new)
-    → OnOk r (IfSome given (λ xs. Prints choice (take 65536 xs) old new))
+    → IfSome given (λ xs. sheet ≡ take sheet_bytes xs) → OnOk r (Prints choice sheet old new)
+    → OnOk r (IfSome given (λ xs. Prints choice (take sheet_bytes xs) old new))
 prints_of choice given sheet old new (Err e) read wrote = tt
 prints_of choice None sheet old new (Ok x) read wrote = tt
 prints_of choice (Some xs) sheet old new (Ok x) read wrote = subst (λ s. Prints choice s old new) read wrote
 
 pub tells : (choice : Choice) (sheet text : List ℕ) (cells : ℕ) (before after : Memory) (r : Result ℕ DrillFault)
-    → cells ≡ 1024 → length before.orders ≡ 4096 → length before.answers ≡ 4096 → length before.out ≡ 65536
+    → cells ≡ queue_cells → length before.orders ≡ places → length before.answers ≡ places → length before.out ≡ listing_bytes
     → Rehearsed sheet (empty (room_of choice cells)) before after r → text ≡ told r after.out → Told choice sheet text
 tells choice sheet text cells before after r e orders answers out h same = record {
   before = before;
@@ -38,6 +39,6 @@ tells choice sheet text cells before after r e orders answers out h same = recor
 }
 
 -- what was read of at most so many bytes
-pub taken : (given : Option (List ℕ)) (sheet : List ℕ) → IfSome (option_map (take 65536) given) (λ xs. sheet ≡ xs) → IfSome given (λ xs. sheet ≡ take 65536 xs)
+pub taken : (given : Option (List ℕ)) (sheet : List ℕ) → IfSome (option_map (take sheet_bytes) given) (λ xs. sheet ≡ xs) → IfSome given (λ xs. sheet ≡ take sheet_bytes xs)
 taken None sheet read = tt
 taken (Some xs) sheet read = read

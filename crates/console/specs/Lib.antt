@@ -1,2 +1,3 @@
 -- What the contracts of the programs' shared part cite.
 pub mod Print
+pub mod Sizes

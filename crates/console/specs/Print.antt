@@ -8,21 +8,22 @@ use Rattle.wire.specs.Channel.{empty}
 use Rattle.runner.specs.Memory.{Memory}
 use Rattle.runner.specs.Rehearse.{Rehearsed}
 use Rattle.runner.specs.Choice.{room_of}
+use Rattle.console.specs.Sizes.{queue_cells, places, listing_bytes}
 
 -- the first n bytes of the space for the listing, or the fault and a line end
 abbrev pub told : Result ℕ DrillFault → List ℕ → List ℕ
 told (Ok n) out = take n out
 told (Err f) out = fault_text f ++ 10 ∷ []
 
--- the sheet was rehearsed over 1,024 cells, with 4,096 places for orders and for answers and 65,536 bytes for the listing, and these bytes tell of it
+-- the sheet was rehearsed in memory of these sizes, and these bytes tell of it
 pub record Told (choice : Choice) (sheet bytes : List ℕ) : Type 0 where
   pub before : Memory
   pub after : Memory
   pub outcome : Result ℕ DrillFault
-  pub orders : length before.orders ≡ 4096
-  pub answers : length before.answers ≡ 4096
-  pub out : length before.out ≡ 65536
-  pub rehearsed : Rehearsed sheet (empty (room_of choice 1024)) before after outcome
+  pub orders : length before.orders ≡ places
+  pub answers : length before.answers ≡ places
+  pub out : length before.out ≡ listing_bytes
+  pub rehearsed : Rehearsed sheet (empty (room_of choice queue_cells)) before after outcome
   pub bytes_told : bytes ≡ told outcome after.out
 
 -- what was printed before, if it is known, and then what is told of the sheet

@@ -3,5 +3,6 @@
 
 pub mod print;
 pub mod run;
+mod sizes;
 #[cfg(test)]
 mod tests;

@@ -2,7 +2,9 @@
 ghost use Rattle.std.specs.Prelude.{◌≡◌, OnOk, Err, [], length};
 ghost use Rattle.std.specs.Io.KnownBytes.{Appends};
 ghost use Rattle.console.specs.Print.{told, Prints};
+ghost use Rattle.console.specs.Sizes.{queue_cells, places, listing_bytes};
 
+use crate::sizes::{LISTING_BYTES, PLACES, QUEUE_CELLS};
 use orders::answer::Answer;
 use orders::order::Order;
 use runner::choice::{Choice, rehearse_by};
@@ -31,10 +33,10 @@ fn write_outcome<W: Write>(
     memory: &mut Memory,
     w: &mut W,
 ) -> io::Result<()>
-    requires cells { length cells.old ≡ 1024 }
-    requires orders { length memory.old.orders.now ≡ 4096 }
-    requires answers { length memory.old.answers.now ≡ 4096 }
-    requires out { length memory.old.out.now ≡ 65536 }
+    requires cells { length cells.old ≡ queue_cells }
+    requires orders { length memory.old.orders.now ≡ places }
+    requires answers { length memory.old.answers.now ≡ places }
+    requires out { length memory.old.out.now ≡ listing_bytes }
     ensures { OnOk result (Prints choice sheet.now (W.contents w.old) (W.contents w.new)) }
 {
     match rehearse_by(choice, cells, sheet, memory) {
@@ -48,10 +50,10 @@ fn write_outcome<W: Write>(
 pub fn print<W: Write>(alloc: Global, choice: Choice, sheet: &[u8], w: &mut W) -> io::Result<()>
     ensures { OnOk result (Prints choice sheet.now (W.contents w.old) (W.contents w.new)) }
 {
-    let mut cells = vec![in alloc; Message::default(); 1024]?;
-    let mut orders = vec![in alloc; Order::Carry; 4096]?;
-    let mut answers = vec![in alloc; Answer::Dropped; 4096]?;
-    let mut out = vec![in alloc; 0u8; 65536]?;
+    let mut cells = vec![in alloc; Message::default(); QUEUE_CELLS]?;
+    let mut orders = vec![in alloc; Order::Carry; PLACES]?;
+    let mut answers = vec![in alloc; Answer::Dropped; PLACES]?;
+    let mut out = vec![in alloc; 0u8; LISTING_BYTES]?;
     let mut at = Position { len: 0 };
     let mut memory = Memory {
         orders: &mut orders,

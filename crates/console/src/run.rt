@@ -1,18 +1,20 @@
 //! A whole program: a sheet in, what comes of it out.
 ghost use Rattle.std.specs.Prelude.{◌≡◌, ℕ, List, take, IfOk, IfSome, OnOk};
 ghost use Rattle.console.specs.Print.{Prints};
+ghost use Rattle.console.specs.Sizes.{sheet_bytes};
 
 use crate::print::print;
+use crate::sizes::SHEET_BYTES;
 use runner::choice::Choice;
 use std::alloc::Global;
 use std::io::{self, Read, Write};
 
-// The first 65,536 bytes of the input.
+// The first bytes of the input, as many as a sheet may have.
 fn read_sheet<R: Read + Drop>(alloc: Global, input: R) -> io::Result<Vec<u8>>
-    ensures { IfOk result (λ sheet. IfSome (R.remaining input) (λ given. sheet.items ≡ take 65536 given)) }
+    ensures { IfOk result (λ sheet. IfSome (R.remaining input) (λ given. sheet.items ≡ take sheet_bytes given)) }
 {
     let mut sheet = Vec::new(alloc);
-    input.take(65_536).read_to_end(&mut sheet)?;
+    input.take(SHEET_BYTES).read_to_end(&mut sheet)?;
     Ok(sheet)
 }
 
@@ -24,7 +26,7 @@ pub fn run<R: Read + Drop, W: Write>(
     input: R,
     w: &mut W,
 ) -> io::Result<()>
-    ensures { OnOk result (IfSome (R.remaining input) (λ given. Prints choice (take 65536 given) (W.contents w.old) (W.contents w.new))) }
+    ensures { OnOk result (IfSome (R.remaining input) (λ given. Prints choice (take sheet_bytes given) (W.contents w.old) (W.contents w.new))) }
 {
     let sheet = read_sheet(alloc, input)?;
     print(alloc, choice, &sheet, w)

@@ -2,3 +2,4 @@
 pub mod Range
 pub mod Fault
 pub mod Checked
+pub mod Limits

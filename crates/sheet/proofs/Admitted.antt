@@ -12,7 +12,8 @@ use Rattle.sheet.specs.declared.kind.Kind.{Kind}
 use Rattle.sheet.specs.declared.kind.Kind.TheVariants as of
 use Rattle.sheet.specs.Kind.{word_for}
 use Rattle.sheet.specs.Word.{in_word, is_digit, all_digits, numeral, negated, amount}
-use Rattle.sheet.specs.Form.{number, value, kind, Placed, placed, number_max, orders_max, head_words, order_words, SmallValue, SmallSettings, FineOrder}
+use Rattle.settings.specs.Limits.{number_max, orders_max}
+use Rattle.sheet.specs.Form.{number, value, kind, Placed, placed, head_words, order_words, SmallValue, SmallSettings, FineOrder}
 use Rattle.sheet.specs.FirstFault.{formed, above}
 use Rattle.sheet.proofs.Numbers.{own}
 use Rattle.sheet.proofs.Unique.{Plain, Good}

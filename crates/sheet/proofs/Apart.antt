@@ -9,7 +9,8 @@ use Rattle.orders.specs.declared.order.Order.{Order}
 use Rattle.orders.specs.declared.order.Order.TheVariants.{Write, Read, Tell, Carry, ReplicaOut, ClientOut}
 use Rattle.settings.specs.declared.given.Settings.{Settings}
 use Rattle.sheet.specs.Word.{closed}
-use Rattle.sheet.specs.Form.{Due, number, value, kind, Placed, placed, number_max, orders_max, head_words, order_words, lines_of, about_words, bytes_of, SmallValue, SmallOrder, SmallSettings, FineOrder}
+use Rattle.settings.specs.Limits.{number_max, orders_max}
+use Rattle.sheet.specs.Form.{Due, number, value, kind, Placed, placed, head_words, order_words, lines_of, about_words, bytes_of, SmallValue, SmallOrder, SmallSettings, FineOrder}
 use Rattle.sheet.specs.declared.kind.Kind.{Kind}
 use Rattle.sheet.specs.declared.kind.Kind.TheVariants as of
 use Rattle.sheet.specs.Kind.{kind_of, kind_at, word_for, separator_for}

@@ -2,7 +2,8 @@
 use Rattle.std.proofs.Common.{◌≡◌, ℕ, ◌+◌, ◌<◌, List, [], ◌++◌, length, decimal, sym, refl, ap, ◌∙◌, subst, append_assoc, add-zero, arith}
 use Rattle.sheet.specs.Fault.{Shown, shows}
 use Rattle.sheet.specs.Word.{word_of}
-use Rattle.sheet.specs.Form.{Placed, placed, number, number_words, orders_max, bytes_of, lines_in}
+use Rattle.settings.specs.Limits.{orders_max}
+use Rattle.sheet.specs.Form.{Placed, placed, number, number_words, bytes_of, lines_in}
 use Rattle.sheet.specs.FirstFault.{Fault}
 use Rattle.sheet.specs.Steps.{Took, Overfull, Miscounted, wrong, many, Uncounted, unfit, unplaced}
 use Rattle.sheet.proofs.Walks.{missed_unfit, later, bytes_append, lines_append}

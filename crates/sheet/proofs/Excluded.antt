@@ -6,7 +6,8 @@ use Rattle.orders.specs.declared.order.Order.{Order}
 use Rattle.settings.specs.declared.given.Settings.{Settings}
 use Rattle.sheet.specs.Fault.{Shown}
 use Rattle.sheet.specs.Word.{word_of, closed}
-use Rattle.sheet.specs.Form.{Placed, placed, number, number_words, orders_max, title_words, settings_words, orders_words, head_words, order_words, lines_of, bytes_of, SmallSettings, FineOrder}
+use Rattle.settings.specs.Limits.{orders_max}
+use Rattle.sheet.specs.Form.{Placed, placed, number, number_words, title_words, settings_words, orders_words, head_words, order_words, lines_of, bytes_of, SmallSettings, FineOrder}
 use Rattle.sheet.specs.FirstFault.{Fault, InHead, Crowded, InOrder}
 use Rattle.sheet.proofs.Unique.{Good, word_closed, peel}
 use Rattle.sheet.proofs.Admitted.{Admitted, head_admitted, order_admitted, number_admitted}

@@ -2,7 +2,8 @@
 use Rattle.std.proofs.Common.{◌≡◌, ℕ, ◌≤◌, List, [], ◌∷◌, decimal, Ok, Err, Bor, Result, MatchResult, subst, arith}
 use Rattle.sheet.specs.declared.fault.SheetFault.{SheetFault}
 use Rattle.sheet.specs.Fault.{shown}
-use Rattle.sheet.specs.Form.{Due, placed, number, orders_max}
+use Rattle.settings.specs.Limits.{orders_max}
+use Rattle.sheet.specs.Form.{Due, placed, number}
 use Rattle.sheet.specs.Steps.{Closed, Unfit, Counts, Uncounted, Fielded, missing, refused, unclosed, Stepped, Counted, wrong}
 use Rattle.sheet.proofs.Counting.{miscounted_word}
 use Rattle.sheet.proofs.Walks.{took_closed, missed_ended, missed_unfit, missed_unclosed}

@@ -2,7 +2,8 @@
 use Rattle.std.proofs.Common.{ℕ, List, ◌++◌, pos, arith}
 use Rattle.settings.specs.declared.given.Settings.{Settings}
 use Rattle.sheet.specs.Fault.{Shown}
-use Rattle.sheet.specs.Form.{title_words, settings_words, orders_words, number_words, orders_max, SmallSettings}
+use Rattle.settings.specs.Limits.{orders_max}
+use Rattle.sheet.specs.Form.{title_words, settings_words, orders_words, number_words, SmallSettings}
 use Rattle.sheet.specs.FirstFault.{Fault}
 use Rattle.sheet.specs.Steps.{Took, Missed, Miscounted, wrong, many, HeadFault, spoiled, packed}
 use Rattle.sheet.proofs.Walks.{later, longer}

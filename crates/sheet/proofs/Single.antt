@@ -9,7 +9,8 @@ use Rattle.sheet.specs.declared.fault.SheetFault.{SheetFault}
 use Rattle.sheet.specs.declared.read.Reading.{Reading}
 use Rattle.sheet.specs.Fault.{Shown, shows, shown}
 use Rattle.sheet.specs.Word.{word_of, numeral, amount}
-use Rattle.sheet.specs.Form.{placed, number, number_words, orders_max, head_words, order_words, lines_of, bytes_of, FineOrder}
+use Rattle.settings.specs.Limits.{orders_max}
+use Rattle.sheet.specs.Form.{placed, number, number_words, head_words, order_words, lines_of, bytes_of, FineOrder}
 use Rattle.sheet.specs.FirstFault.{Fails, ended, misformed, excessive, cut, parted, Fault, InHead, Crowded, InOrder, Behind, FirstFault, in_head, crowded, in_order, behind}
 use Rattle.sheet.specs.Read.{Outcome, RefusedAs}
 use Rattle.sheet.proofs.Unique.{word_alone, word_closed, peel}

@@ -5,7 +5,8 @@ use Rattle.std.proofs.lemmas.List.{nil_from_length}
 use Rattle.std.proofs.lemmas.Bool.{false≢true, eq-eqb, ne_eqb, and_parts, or_cases, or_left, or_right}
 use Rattle.sheet.specs.Fault.{Shown, shows}
 use Rattle.sheet.specs.Word.{word_of, numeral, negated, amount}
-use Rattle.sheet.specs.Form.{Due, fixed, number, value, kind, Placed, number_max}
+use Rattle.settings.specs.Limits.{number_max}
+use Rattle.sheet.specs.Form.{Due, fixed, number, value, kind, Placed}
 use Rattle.sheet.specs.FirstFault.{formed, above, Fails, ended, misformed, excessive, cut, parted, Fault}
 use Rattle.sheet.proofs.Unique.{word_alone, unique}
 use Rattle.sheet.proofs.Admitted.{Admitted}

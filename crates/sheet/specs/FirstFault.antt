@@ -7,7 +7,8 @@ use Rattle.settings.specs.declared.given.Settings.{Settings}
 use Rattle.sheet.specs.Fault.{Shown, shows}
 use Rattle.sheet.specs.Kind.{kind_at}
 use Rattle.sheet.specs.Word.{word_of, numeral, negated, amount}
-use Rattle.sheet.specs.Form.{Due, fixed, number, value, kind, Placed, bytes_of, lines_in, number_max, orders_max, title_words, settings_words, orders_words, head_words, order_words, lines_of, sheet_of, SmallSettings, FineOrder, Writable}
+use Rattle.settings.specs.Limits.{number_max, orders_max}
+use Rattle.sheet.specs.Form.{Due, fixed, number, value, kind, Placed, bytes_of, lines_in, title_words, settings_words, orders_words, head_words, order_words, lines_of, sheet_of, SmallSettings, FineOrder, Writable}
 
 -- the word is of the form that is due
 abbrev pub formed : Due → List ℕ → Bool

@@ -4,18 +4,11 @@ use Rattle.std.specs.Fmt.{signed_decimal}
 use Rattle.std.specs.List.{flat_map, AllByRecursion}
 use Rattle.orders.specs.declared.order.Order.{Order}
 use Rattle.orders.specs.declared.order.Order.TheVariants.{Write, Read, Tell, Carry, ReplicaOut, ClientOut}
+use Rattle.settings.specs.Limits.{number_max, orders_max}
 use Rattle.settings.specs.declared.given.Settings.{Settings}
 use Rattle.sheet.specs.declared.kind.Kind.{Kind}
 use Rattle.sheet.specs.Kind.{kind_of, word_for, separator_for}
 use Rattle.sheet.specs.Word.{closed}
-
--- the largest number and the largest size of a value
-abbrev pub number_max : ℕ
-number_max = 99999999
-
--- the most orders
-abbrev pub orders_max : ℕ
-orders_max = 4096
 
 -- what is due at a place: this word and no other, a number up to a limit, a value, or the word of an order's kind
 pub data Due : Type 0 where

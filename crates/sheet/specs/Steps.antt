@@ -10,7 +10,8 @@ use Rattle.sheet.specs.declared.read.Reading.{Reading}
 use Rattle.sheet.specs.declared.cursor.Cursor.{Cursor}
 use Rattle.sheet.specs.Fault.{Shown, shows, shown}
 use Rattle.sheet.specs.Word.{word_of, closed}
-use Rattle.sheet.specs.Form.{Due, number, Placed, number_words, bytes_of, lines_in, title_words, settings_words, orders_words, head_words, lines_of, order_words, orders_max, SmallValue, SmallSettings, FineOrder}
+use Rattle.settings.specs.Limits.{orders_max}
+use Rattle.sheet.specs.Form.{Due, number, Placed, number_words, bytes_of, lines_in, title_words, settings_words, orders_words, head_words, lines_of, order_words, SmallValue, SmallSettings, FineOrder}
 use Rattle.sheet.specs.FirstFault.{formed, above, Fault}
 
 -- the word writes the number, which is within its limit

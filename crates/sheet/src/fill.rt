@@ -1,5 +1,6 @@
 //! The lines of the orders, each filled into its place.
 ghost use Rattle.std.specs.Prelude.{◌^◌, ◌<◌, ◌≤◌, length, MatchResult};
+ghost use Rattle.settings.specs.Limits.{orders_max};
 ghost use Rattle.sheet.specs.Fault.{shown};
 ghost use Rattle.sheet.specs.Steps.{Fills};
 
@@ -9,7 +10,7 @@ use orders::order::Order;
 
 impl<'a> Cursor<'a> {
     pub(crate) fn fill(&mut self, orders: &mut [Order], count: usize) -> Result<(), SheetFault<'a>>
-        requires few { count ≤ 4096 }
+        requires few { count ≤ orders_max }
         requires room { count ≤ length orders.old }
         ensures { Fills count self.old orders.old orders.new self.new result }
     {

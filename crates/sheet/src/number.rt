@@ -1,5 +1,6 @@
 //! Numbers and values: a word is judged, its form before its size.
 ghost use Rattle.std.specs.Prelude.{◌≡◌, ◌^◌, ◌<◌, ◌≤◌, true, MatchOption, MatchResult};
+ghost use Rattle.settings.specs.Limits.{orders_max};
 ghost use Rattle.sheet.specs.Word.{amount, numeral};
 ghost use Rattle.sheet.specs.Fault.{shown, shows};
 ghost use Rattle.sheet.specs.Form.{number, value, fixed};
@@ -67,7 +68,7 @@ pub(crate) fn count_in<'a>(
     places: usize,
     line: usize,
 ) -> Result<usize, SheetFault<'a>>
-    ensures { MatchResult result (λ n. Counts 4096 word.now n × (n ≤ places)) (λ f. Uncounted places word.now line (shown f)) }
+    ensures { MatchResult result (λ n. Counts orders_max word.now n × (n ≤ places)) (λ f. Uncounted places word.now line (shown f)) }
 {
     let count = number_in(word, ORDERS_MAX, line)? as usize;
     if count > places {

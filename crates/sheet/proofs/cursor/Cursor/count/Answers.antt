@@ -1,6 +1,7 @@
 use Rattle.std.proofs.Common.{[], arith, rules}
 use Rattle.std.proofs.lemmas.Result.{err_from_is_err_and, MatchResult-weaker}
-use Rattle.sheet.specs.Form.{number_words, orders_max, orders_words}
+use Rattle.settings.specs.Limits.{orders_max}
+use Rattle.sheet.specs.Form.{number_words, orders_words}
 use Rattle.sheet.specs.Fault.{shown}
 use Rattle.sheet.specs.Steps.{wrong}
 use Rattle.sheet.proofs.Counting.{miscounted_after}

@@ -1,0 +1,14 @@
+-- The limits that several crates name, under the names of src/limits.rt in small letters.
+use Rattle.std.specs.Prelude.{ℕ}
+
+-- a client whose round number has come so far starts nothing more
+abbrev pub rounds_max : ℕ
+rounds_max = 2000000
+
+-- the most orders of a sheet
+abbrev pub orders_max : ℕ
+orders_max = 4096
+
+-- the largest number of a sheet, and the largest size of a value there
+abbrev pub number_max : ℕ
+number_max = 99999999
