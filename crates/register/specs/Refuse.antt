@@ -7,6 +7,7 @@ use Rattle.orders.specs.declared.answer.Refusal.TheVariants.{Unknown, Withdrawn,
 use Rattle.client.specs.declared.client.Phase.{Phase}
 use Rattle.client.specs.declared.client.Phase.TheVariants.{Idle, Due}
 use Rattle.register.specs.declared.register.Register.{Register}
+use Rattle.settings.specs.Limits.{rounds_max}
 use Rattle.settings.specs.Range.{value_in_range}
 use Rattle.register.specs.Register.{client_at}
 use Rattle.settings.specs.declared.checked.Checked.{Checked}
@@ -39,14 +40,14 @@ write_refusal r free z =
     cond (client_at r 0).out (Some Withdrawn)
     (cond (not (is_idle (client_at r 0).phase)) (Some Busy)
     (cond (not (value_in_range z)) (Some ValueRange)
-    (cond (nat_le 2000000 (client_at r 0).round) (Some RoundLimit)
+    (cond (nat_le rounds_max (client_at r 0).round) (Some RoundLimit)
     (room_refusal r.settings free 1))))
 
 abbrev pub read_refusal : Register → ℕ → ℕ → Option Refusal
 read_refusal r free c =
     option_or (reader_refusal r c)
     (cond (not (is_idle (client_at r c).phase)) (Some Busy)
-    (cond (nat_le 2000000 (client_at r c).round) (Some RoundLimit)
+    (cond (nat_le rounds_max (client_at r c).round) (Some RoundLimit)
     (room_refusal r.settings free 2)))
 
 abbrev pub tell_refusal : Register → ℕ → ℕ → Option Refusal
