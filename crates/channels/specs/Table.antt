@@ -1,5 +1,5 @@
 -- What a table of slots holds.
-use Rattle.std.specs.Prelude.{◌≡◌, ℕ, suc, ◌<◌, Bool, false, cond, ◌&&◌, ◌||◌, List, [], ◌∷◌, length, Some, None, Option, ◌==◌, nat_lt, slice_index_or}
+use Rattle.std.specs.Prelude.{◌≡◌, ℕ, suc, ◌<◌, Bool, false, cond, ◌&&◌, ◌||◌, List, [], ◌∷◌, length, Some, None, Option, MatchOption, ◌==◌, nat_lt, slice_index_or}
 use Rattle.wire.specs.declared.message.Message.{Message}
 
 module _ {M : Type 0} where
@@ -14,6 +14,10 @@ module _ {M : Type 0} where
   gaps [] = 0
   gaps (None ∷ xs) = suc (gaps xs)
   gaps (Some m ∷ xs) = gaps xs
+
+  -- an unused slot, none only where no slot is unused
+  abbrev pub Unused : List (Option M) → Option ℕ → Type 0
+  Unused xs r = MatchOption r (gaps xs ≡ 0) (λ i. (i < length xs) × (slice_index_or xs i None ≡ None))
 
 -- by round, then replica, then client, then kind
 abbrev pub lower : Message → Message → Bool

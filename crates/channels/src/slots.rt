@@ -1,6 +1,6 @@
 //! The slot channel: a table of 256 slots of its own, which gives the lowest message.
 ghost use Rattle.std.specs.Prelude.{◌≡◌, ℕ, ◌<◌, ◌≤◌, [], length, None, MatchOption, slice_index_or};
-ghost use Rattle.channels.specs.Table.{somes, gaps, lower, Lowest, Found, pick};
+ghost use Rattle.channels.specs.Table.{gaps, lower, Unused, Found, pick};
 
 use wire::channel::{Channel, Full};
 use wire::message::Message;
@@ -22,7 +22,7 @@ fn lower(a: &Message, b: &Message) -> bool
 // The first slot that is unused.
 #[tactic(auto, using(crate::proofs::Slotted::first_unused))]
 fn unused(table: &[Option<Message>]) -> Option<usize>
-    ensures { MatchOption result (gaps table.now ≡ 0) (λ i. (i < length table.now) × (slice_index_or table.now i None ≡ None)) }
+    ensures { Unused table.now result }
 {
     table.iter().position(|s| s.is_none())
 }
@@ -90,7 +90,11 @@ impl Channel for Slots {
     }
 
     /// It gives the lowest: none that waited is before it.
-    #[tactic(auto, using(crate::proofs::Slotted::none_held, crate::proofs::Slotted::freed_holds, crate::proofs::Slotted::freed_leaves))]
+    #[tactic(auto, using(
+        crate::proofs::Slotted::none_held,
+        crate::proofs::Slotted::freed_holds,
+        crate::proofs::Slotted::freed_leaves
+    ))]
     fn take(&mut self) -> Option<Message>
         ensures meets { Taken (contents_of self.old) (contents_of self.new) result }
         ensures lowest { GivesLowest self.old result }

@@ -44,10 +44,16 @@ kind_of (TellRound c) = 3
 abbrev pub set_size : Checked → ℕ → ℕ
 set_size k kind = cond (kind == 3) (3 * k.tolerated + 1) k.replicas
 
--- One round more, in the phase that awaits its replies. A write takes the new round as its version, and the value written
--- before it as previous.
+-- One round more, in the phase that awaits its replies. A write takes the new round as its version, and the value
+-- written before it as previous.
 abbrev pub started : Client → Round → Client
 started c (WriteRound z) =
-    record c { round = raised c.round; version = raised c.round; value = z; previous = c.value; phase = Writing no_receipts }
+    record c {
+      round = raised c.round;
+      version = raised c.round;
+      value = z;
+      previous = c.value;
+      phase = Writing no_receipts;
+    }
 started c (ReadRound r) = record c { round = raised c.round; phase = Asking no_readings }
 started c (TellRound r) = record c { round = raised c.round; phase = Telling no_receipts }

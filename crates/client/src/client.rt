@@ -2,7 +2,7 @@
 use quorum::replies::{Readings, Receipts};
 
 /// What a client does at present, with the replies counted so far.
-#[derive(Debug, Clone, Copy)]
+#[derive(Debug, Clone, Copy, PartialEq)]
 pub enum Phase {
     /// no call is under way
     Idle,
@@ -17,7 +17,7 @@ pub enum Phase {
 }
 
 /// A client: withdrawn or not, its round, what it knows and its phase.
-#[derive(Debug, Clone, Copy)]
+#[derive(Debug, Clone, Copy, PartialEq)]
 pub struct Client {
     /// withdrawn; it keeps the phase that it was in
     pub out: bool,

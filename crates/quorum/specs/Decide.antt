@@ -8,8 +8,8 @@ use Rattle.quorum.specs.declared.decide.Decided.{Decided}
 use Rattle.quorum.specs.Highest.{highest_of, notes_at, lowest_at}
 use Rattle.quorum.specs.Agree.{agreed}
 
--- the first rule that fits at version h: version 0 needs no agreement; more than t replies have the note h; a set has more
--- than a marks in common; a set has a marks in common, or some reply has the note h; else h is not shown
+-- the first rule that fits at version h: version 0 needs no agreement; more than t replies have the note h; a set has
+-- more than a marks in common; a set has a marks in common, or some reply has the note h; else h is not shown
 abbrev pub verdict_at : Checked → ℕ → List Reading → Verdict
 verdict_at k h xs =
     cond (h == 0) Highest

@@ -9,7 +9,15 @@ abbrev pub receipt_of : Message → Receipt
 receipt_of m = record { replica = m.replica }
 
 abbrev pub reading_of : Message → Reading
-reading_of m = record { replica = m.replica; version = m.version; value = m.value; previous = m.previous; marks = m.marks; note = m.note }
+reading_of m =
+    record {
+      replica = m.replica;
+      version = m.version;
+      value = m.value;
+      previous = m.previous;
+      marks = m.marks;
+      note = m.note;
+    }
 
 -- what stands where no receipt is
 abbrev pub blank_receipt : Receipt

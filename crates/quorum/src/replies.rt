@@ -18,7 +18,7 @@ fn add_to<T: Slip + Drop>(places: &mut [T], len: usize, slip: T) -> bool
 
 /// The slips of one round: the first got of 32 places; the others are free.
 // An array with a count beside it, since an `ArrayVec` is not `Copy`, as every client that holds this is.
-#[derive(Debug, Clone, Copy)]
+#[derive(Debug, Clone, Copy, PartialEq)]
 pub struct Replies<T> {
     /// how many are counted
     pub got: usize,

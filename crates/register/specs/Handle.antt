@@ -21,7 +21,10 @@ is_lost r m = cond (is_request m.kind) (slice_index_or r.out m.replica false) (c
 
 -- by cases: stray, lost, at its replica, at its client
 abbrev pub by_case : {A : Type 0} → Register → Message → A → A → A → A → A
-by_case r m stray lost at_replica at_client = cond (is_stray r m) stray (cond (is_lost r m) lost (cond (is_request m.kind) at_replica at_client))
+by_case r m stray lost at_replica at_client =
+    cond (is_stray r m) stray
+    (cond (is_lost r m) lost
+    (cond (is_request m.kind) at_replica at_client))
 
 -- the register after a message
 abbrev pub handled : Register → Message → Register

@@ -14,11 +14,14 @@ use Rattle.std.specs.Option.{option_map, option_or}
 
 -- the channel must be empty, with a place for each replica
 abbrev pub channel_fault : Contents → ℕ → Option ChannelFault
-channel_fault x replicas = cond (nat_lt 0 (length x.waiting)) (Some NotEmpty) (cond (nat_lt x.free replicas) (Some TooFew) None)
+channel_fault x replicas =
+    cond (nat_lt 0 (length x.waiting)) (Some NotEmpty)
+    (cond (nat_lt x.free replicas) (Some TooFew) None)
 
 -- the first fault that fits, in rising order of the numbers; none where the register opens
 abbrev pub opening_fault : Settings → Contents → Option RegisterFault
-opening_fault s x = option_or (option_map OfSettings (settings_fault s)) (option_map OfChannel (channel_fault x s.replicas))
+opening_fault s x =
+    option_or (option_map OfSettings (settings_fault s)) (option_map OfChannel (channel_fault x s.replicas))
 
 -- a register opened: the settings have no fault, nothing waits, and a place is free for each replica
 pub record Opens (s : Settings) (x : Contents) (r : Register) : Type 0 where

@@ -41,12 +41,15 @@ pub record Filled (Said : List Answer → Type 0) (count : ℕ) (before after : 
 
 module _ {C : Type 0} (contents : C → Contents) where
   -- a list of orders is done, or with fewer answers than orders refused whole, and then nothing changes
-  abbrev pub Runs : Register → C → List Order → List Answer → Result Unit RegisterFault → List Answer → Register → C → Type 0
+  abbrev pub Runs : Register → C → List Order → List Answer
+      → Result Unit RegisterFault → List Answer → Register → C → Type 0
   Runs r c os before result after r' c' = MatchResult result
       (λ _. Filled (λ rs. Ran (world r (contents c)) os rs (world r' (contents c'))) (length os) before after)
       (λ e. (e ≡ Answers) × (length before < length os) × (after ≡ before) × (c' ≡ c) × (r' ≡ r))
 
   -- as many carries are done as fill the answers, or fewer, and then no message waits
-  pub record Settles (r : Register) (c : C) (before : List Answer) (count : ℕ) (after : List Answer) (r' : Register) (c' : C) : Type 0 where
-    pub filled : Filled (λ rs. Ran (world r (contents c)) (replicate count Carry) rs (world r' (contents c'))) count before after
+  pub record Settles (r : Register) (c : C) (before : List Answer) (count : ℕ) (after : List Answer)
+      (r' : Register) (c' : C) : Type 0 where
+    pub filled : Filled (λ rs. Ran (world r (contents c)) (replicate count Carry) rs (world r' (contents c')))
+        count before after
     pub settled : count < length before → (contents c').waiting ≡ []

@@ -1,8 +1,9 @@
 -- The state of a register: its rows, its clients, and how one of them is changed.
-use Rattle.std.specs.Prelude.{ℕ, false, [], replicate, pos, slice_index_or, slice_set}
+use Rattle.std.specs.Prelude.{◌≡◌, ◌<◌, ◌≤◌, Bool, Option, MatchOption, ℕ, false, [], replicate, pos, slice_index_or, slice_set}
 use Rattle.replica.specs.declared.row.Row.{Row}
 use Rattle.replica.specs.Row.{opened_row}
 use Rattle.settings.specs.declared.checked.Checked.{Checked}
+use Rattle.client.specs.declared.client.Phase.{Phase}
 use Rattle.client.specs.declared.client.Phase.TheVariants.{Idle}
 use Rattle.client.specs.declared.client.Client.{Client}
 use Rattle.client.specs.Client.{opened_client}
@@ -39,3 +40,18 @@ with_row r b x = record r { rows = slice_set r.rows b x }
 -- with one client, and nothing else, changed
 abbrev pub with_client : Register → ℕ → Client → Register
 with_client r c x = record r { clients = slice_set r.clients c x }
+
+-- ---- what can be seen of a register
+
+abbrev pub settings_of : Register → Checked
+settings_of r = r.settings
+
+-- the phase of the writer or of a reader; none for any other number
+abbrev pub ShowsPhase : Register → ℕ → Option Phase → Type 0
+ShowsPhase r c o = MatchOption o (r.settings.readers < c) (λ p. (c ≤ r.settings.readers) × (p ≡ (client_at r c).phase))
+
+abbrev pub is_out : Register → ℕ → Bool
+is_out r i = slice_index_or r.out i false
+
+abbrev pub outs_of : Register → ℕ
+outs_of r = r.outs

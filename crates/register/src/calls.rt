@@ -10,7 +10,8 @@ use wire::channel::Channel;
 
 // The channel is handed in at each call, and the register owns none: so each contract says what both are after it.
 impl Register {
-    /// The writer begins to write. Sent back, the first that fits: `Withdrawn`, `Busy`, `ValueRange`, `RoundLimit`, `NoRoom`.
+    /// The writer begins to write. Sent back, the first that fits: `Withdrawn`, `Busy`, `ValueRange`, `RoundLimit`,
+    /// `NoRoom`.
     pub fn write<C: Channel>(&mut self, c: &mut C, value: i32) -> Answer
         ensures { Does C.contents self.old c.old (Order.Write value) result self.new c.new }
     {
@@ -23,7 +24,8 @@ impl Register {
         }
     }
 
-    /// Reader 1 to R begins to read. Sent back, the first that fits: `Unknown`, `Withdrawn`, `Busy`, `RoundLimit`, `NoRoom`.
+    /// Reader 1 to R begins to read. Sent back, the first that fits: `Unknown`, `Withdrawn`, `Busy`, `RoundLimit`,
+    /// `NoRoom`.
     pub fn read<C: Channel>(&mut self, c: &mut C, reader: u32) -> Answer
         ensures { Does C.contents self.old c.old (Order.Read reader) result self.new c.new }
     {
@@ -36,7 +38,8 @@ impl Register {
         }
     }
 
-    /// A reader whose read is due begins its second round. Sent back, the first that fits: `Unknown`, `Withdrawn`, `NotDue`, `NoRoom`.
+    /// A reader whose read is due begins its second round. Sent back, the first that fits: `Unknown`, `Withdrawn`,
+    /// `NotDue`, `NoRoom`.
     pub fn tell<C: Channel>(&mut self, c: &mut C, reader: u32) -> Answer
         ensures { Does C.contents self.old c.old (Order.Tell reader) result self.new c.new }
     {

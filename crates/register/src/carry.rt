@@ -21,7 +21,8 @@ fn put_reply<C: Channel>(c: &mut C, reply: Option<Message>)
 }
 
 impl Register {
-    /// For some message that waited, of the channel's choice, this is what the rules say of it. Sent back with `NothingWaits`.
+    /// For some message that waited, of the channel's choice, this is what the rules say of it. Sent back with
+    /// `NothingWaits`.
     pub fn carry<C: Channel>(&mut self, c: &mut C) -> Answer
         ensures { Does C.contents self.old c.old Order.Carry result self.new c.new }
     {

@@ -8,8 +8,8 @@ use wire::kind::Kind;
 use wire::message::Message;
 
 impl Register {
-    /// Handles any message in any state; the reply of a replica, if any, is the caller's to send. `Dropped` where no such kind,
-    /// replica or client is, `Lost` where the one addressed is out.
+    /// Handles any message in any state; the reply of a replica, if any, is left to be sent. `Dropped` where no such
+    /// kind, replica or client is, `Lost` where the one addressed is out.
     // Inlined, since its result would else go through memory at each carry.
     #[inline(always)]
     pub fn handle(&mut self, m: Message) -> (Answer, Option<Message>)

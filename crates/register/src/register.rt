@@ -1,5 +1,7 @@
 //! The register: settings, replicas and clients in fixed tables.
-use client::client::Client;
+ghost use Rattle.std.specs.Prelude.{◌≡◌};
+
+use client::client::{Client, Phase};
 use replica::row::Row;
 use settings::checked::Checked;
 
@@ -8,8 +10,8 @@ use settings::checked::Checked;
 pub struct Register {
     pub(crate) settings: Checked,
     /// the writer at 0, reader c at c; the first R + 1 are in use
-    // Here, with no padding before or behind it: with padding the whole table is cleared and moved once more when a register
-    // is made.
+    // Here, with no padding before or behind it: with padding the whole table is cleared and moved once more when a
+    // register is made.
     pub(crate) clients: [Client; 65],
     /// what each replica holds; the first S are in use
     pub(crate) rows: [Row; 32],
@@ -18,4 +20,40 @@ pub struct Register {
     /// which replicas are out; the first S are in use
     // Beside the rows, since a row alone is lent to the delivery step.
     pub(crate) out: [bool; 32],
+}
+
+// What can be seen of a register without a change.
+impl Register {
+    ghost use Rattle.register.specs.Register.{settings_of, ShowsPhase, is_out, outs_of};
+
+    /// The settings that it was opened with.
+    pub fn settings(&self) -> Checked
+        ensures { result ≡ settings_of self.now }
+    {
+        self.settings
+    }
+
+    /// The phase of the writer, 0, or of reader 1 to R; none for any other number.
+    pub fn phase(&self, client: u32) -> Option<Phase>
+        ensures { ShowsPhase self.now client result }
+    {
+        if client > u32::from(self.settings.readers) {
+            return None;
+        }
+        Some(self.clients[client as usize].phase)
+    }
+
+    /// Is the replica withdrawn? No for a number that no replica has.
+    pub fn is_out(&self, replica: u32) -> bool
+        ensures { result ≡ is_out self.now replica }
+    {
+        self.out.get(replica as usize).copied().unwrap_or(false)
+    }
+
+    /// How many replicas are withdrawn.
+    pub fn out_count(&self) -> u8
+        ensures { result ≡ outs_of self.now }
+    {
+        self.outs
+    }
 }

@@ -24,8 +24,8 @@ impl Register {
         }
     }
 
-    /// Does the orders and fills an answer for each; later answers keep what they held. Sent back whole, with `Answers`, where
-    /// the answers are fewer than the orders.
+    /// Does the orders and fills an answer for each; later answers keep what they held. Sent back whole, with
+    /// `Answers`, where the answers are fewer than the orders.
     pub fn run<C: Channel>(
         &mut self,
         c: &mut C,

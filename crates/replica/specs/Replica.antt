@@ -7,7 +7,15 @@ use Rattle.replica.specs.declared.replica.Replica.{Replica}
 
 -- what a record holds, as a row
 abbrev pub plain : Replica → Row
-plain r = record { version = r.version; value = r.value; previous = r.previous; marks = r.marks; note = r.note; rounds = r.rounds }
+plain r =
+    record {
+      version = r.version;
+      value = r.value;
+      previous = r.previous;
+      marks = r.marks;
+      note = r.note;
+      rounds = r.rounds;
+    }
 
 -- a message that no replica acts on: no request, or of a client without a round number here
 abbrev pub misdirected : Message → Bool
@@ -21,7 +29,8 @@ is_stale r m = nat_le m.round (slice_index r.rounds m.client)
 abbrev pub is_news : Row → Message → Bool
 is_news r m = nat_lt r.version m.version
 
--- A fresh message: its round is recorded; a higher version is taken with both values and the message's marks alone, else the marks are added; a tell raises the note to its version.
+-- A fresh message: its round is recorded; a higher version is taken with both values and the message's marks alone, else
+-- the marks are added; a tell raises the note to its version.
 abbrev pub fresh : Row → Message → Row
 fresh r m =
     record {
@@ -35,7 +44,15 @@ fresh r m =
 
 -- the reply of a replica: the same client and round, and what it holds now
 abbrev pub reply_from : Row → Message → Message
-reply_from r m = record m { kind = m.kind + 3; version = r.version; value = r.value; previous = r.previous; marks = r.marks; note = r.note }
+reply_from r m =
+    record m {
+      kind = m.kind + 3;
+      version = r.version;
+      value = r.value;
+      previous = r.previous;
+      marks = r.marks;
+      note = r.note;
+    }
 
 -- the replica after a message
 abbrev pub stepped : Row → Message → Row

@@ -15,7 +15,14 @@ settings_fault s =
 
 -- the settings as they were given
 abbrev pub given : Checked → Settings
-given k = record { replicas = k.replicas; tolerated = k.tolerated; groups = k.groups; readers = k.readers; initial = k.initial }
+given k =
+    record {
+      replicas = k.replicas;
+      tolerated = k.tolerated;
+      groups = k.groups;
+      readers = k.readers;
+      initial = k.initial;
+    }
 
 -- the settings pass as they were given, or fail by their first fault
 abbrev pub Passes : Settings → Result Checked SettingsFault → Type 0
