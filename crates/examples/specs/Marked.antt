@@ -13,8 +13,9 @@ use Rattle.quorum.specs.declared.decide.Verdict.{Verdict}
 use Rattle.quorum.specs.declared.decide.Verdict.TheVariants.{Highest, Due, Previous}
 use Rattle.quorum.specs.declared.decide.Decided.{Decided}
 
--- settings S, t and V, with the number of their refusal, if any; or four replies, the first so many at version 1 with these
--- marks and this note and the others at version 0, with the version shown in one round, or none if the read is due
+-- settings S, t and V, with the number of their refusal, if any; or four replies, the first so many at version 1
+-- with these marks and this note and the others at version 0, with the version shown in one round, or none if the
+-- read is due
 pub data Marked : Type 0 where
   opening : ℕ → ℕ → ℕ → Option ℕ → Marked
   deciding : ℕ → ℕ → ℕ → Option ℕ → Marked

@@ -63,7 +63,8 @@ called_to v o =
 
 -- the entry of a carry that takes the message m
 abbrev pub given : World → Message → Entry
-given v m = record { order = Carry; answer = handled_answer v.register m; sent = option_to_list (handled_reply v.register m) }
+given v m =
+    record { order = Carry; answer = handled_answer v.register m; sent = option_to_list (handled_reply v.register m) }
 
 -- the world after it, where the rest had waited with m
 abbrev pub given_to : World → Message → List Message → World
@@ -186,7 +187,8 @@ shown_previous =
     ++ calls (Read 1) (bare_of 100 1)
     ++ gives 3 5 (bare_of 101 1) ++ gives 2 6 (bare_of 104 1) ++ gives 1 6 (shown 1 1 1200 1)
 
--- the writer is withdrawn while it writes, and a replica with it: the read ends and shows that write, and then nothing waits
+-- the writer is withdrawn while it writes, and a replica with it: the read ends and shows that write,
+-- and then nothing waits
 abbrev pub ended_without : List (Move × Listed)
 ended_without =
     calls (Write (pos 1200)) (bare_of 100 0)

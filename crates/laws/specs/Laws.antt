@@ -29,7 +29,8 @@ ShowsNearest v z (x ∷ xs) =
     ((x.client ≡ 0) × ShowsNearest x.version x.value xs)
     ⊎ ((x.client ≢ 0) × (x.version ≡ v) × (x.value ≡ z) × ShowsNearest v z xs)
 
--- One line: the operations that belong in it, each once, stand in a list in which what ended before another began stands before it, and each read shows the nearest write before it, or with none before it the initial value.
+-- One line: the operations that belong in it, each once, stand in a list in which what ended before another began
+-- stands before it, and each read shows the nearest write before it, or with none before it the initial value.
 pub record OneLine (initial : ℤ) (es : List Entry) : Type 0 where
   pub line : List Operation
   pub once : NoTwice (map (λ o. o.begin) line)
@@ -38,7 +39,8 @@ pub record OneLine (initial : ℤ) (es : List Entry) : Type 0 where
   pub ordered : InOrder line
   pub shows : ShowsNearest 0 initial line
   -- an ended write's 105 names its number among the accepted writes, and the value that was ordered
-  pub written : (o : Operation) (j : ℕ) → IsWrite es o → (x : EndsAt es 0 o.begin j) → ((listed_as x.entry.answer).version ≡ o.version) × ((listed_as x.entry.answer).value ≡ o.value)
+  pub written : (o : Operation) (j : ℕ) → IsWrite es o → (x : EndsAt es 0 o.begin j)
+      → ((listed_as x.entry.answer).version ≡ o.version) × ((listed_as x.entry.answer).value ≡ o.value)
 
 -- ---- rounds
 
@@ -57,13 +59,18 @@ rounds_of es c i j = count_by (λ e. nat_lt 0 (own_messages c e)) (span es i j)
 abbrev pub messages_of : List Entry → ℕ → ℕ → ℕ → ℕ
 messages_of es c i j = sum_by (own_messages c) (span es i j)
 
--- Rounds: an ended write took one round and an ended read one or two, as its 105 names; an ended read put out at most S + 3t + 1 messages; of two reads of two rounds that show the same write, neither ended before the other began.
+-- Rounds: an ended write took one round and an ended read one or two, as its 105 names; an ended read put out at most
+-- S + 3t + 1 messages; of two reads of two rounds that show the same write, neither ended before the other began.
 pub record FewRounds (k : Checked) (es : List Entry) : Type 0 where
-  pub named : (c i j : ℕ) → Begins es c i → (x : EndsAt es c i j) → (listed_as x.entry.answer).rounds ≡ rounds_of es c i j
+  pub named : (c i j : ℕ) → Begins es c i → (x : EndsAt es c i j)
+      → (listed_as x.entry.answer).rounds ≡ rounds_of es c i j
   pub write : (i j : ℕ) → Begins es 0 i → EndsAt es 0 i j → rounds_of es 0 i j ≡ 1
   pub read : (c i j : ℕ) → Begins es c i → EndsAt es c i j → (rounds_of es c i j ≡ 1) ⊎ (rounds_of es c i j ≡ 2)
-  pub messages : (c i j : ℕ) → Begins es c i → EndsAt es c i j → messages_of es c i j ≤ k.replicas + (3 * k.tolerated + 1)
-  pub apart : (o p : Operation) → (x : IsRead es o) → (y : IsRead es p) → rounds_of es o.client o.begin x.place ≡ 2 → rounds_of es p.client p.begin y.place ≡ 2 → o.version ≡ p.version → Before o p → ⊥
+  pub messages : (c i j : ℕ) → Begins es c i → EndsAt es c i j
+      → messages_of es c i j ≤ k.replicas + (3 * k.tolerated + 1)
+  pub apart : (o p : Operation) → (x : IsRead es o) → (y : IsRead es p)
+      → rounds_of es o.client o.begin x.place ≡ 2 → rounds_of es p.client p.begin y.place ≡ 2
+      → o.version ≡ p.version → Before o p → ⊥
 
 -- ---- ending
 

@@ -8,6 +8,9 @@ use Rattle.register.specs.Past.{Past}
 use Rattle.wire.specs.Channel.{empty}
 use Rattle.laws.specs.Laws.{Lawful}
 
--- Every past keeps the laws: of a register opened with any accepted settings over any channel in which nothing waits and a place is free for each replica, then given any orders, with any choice of the waiting message at each carry.
+-- Every past keeps the laws: of a register opened with any accepted settings over any channel in which nothing waits
+-- and a place is free for each replica, then given any orders, with any choice of the waiting message at each carry.
 abbrev pub Laws : Type 0
-Laws = (k : Checked) (free : ℕ) → k.replicas ≤ free → (es : List Entry) (w : World) → Past (world (opened k) (empty free)) es w → Lawful k w.waiting es
+Laws =
+    (k : Checked) (free : ℕ) → k.replicas ≤ free → (es : List Entry) (w : World)
+    → Past (world (opened k) (empty free)) es w → Lawful k w.waiting es

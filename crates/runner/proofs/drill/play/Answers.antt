@@ -4,11 +4,9 @@ use Rattle.runner.proofs.drill.play.Goals as goal
 
 pub returns-in_err-written : goal.returns-in_err-written
 returns-in_err-written g c =
-    let s = c.in_ok-_register.ensures.session in
     let e = err_from_is_err_and c.from_residual-in_err-written.result c.from_residual-in_err-written.ensures.1 in
-    rw (e.1, e.2) (record { played = played _ _ _ _ _ _ c.in_ok-_register._register c.requires s.0 s.1; short = c.in_err-written.ensures })
+    rw (e.1, e.2) (record { played = played _ _ _ _ _ _ c.in_ok-_register._register c.requires c.in_ok-_register.ensures.done; short = c.in_err-written.ensures })
 
 pub returns : goal.returns
 returns g c =
-    let s = c.in_ok-_register.ensures.session in
-    record { played = played _ _ _ _ _ _ c.in_ok-_register._register c.requires s.0 s.1; written = c.in_ok-written.ensures }
+    record { played = played _ _ _ _ _ _ c.in_ok-_register._register c.requires c.in_ok-_register.ensures.done; written = c.in_ok-written.ensures }
