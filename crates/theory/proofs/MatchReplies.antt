@@ -11,8 +11,8 @@ use Rattle.orders.specs.declared.answer.Answer.TheVariants.{Ignored, Counted, Be
 use Rattle.quorum.specs.declared.slip.Reading.{Reading}
 use Rattle.quorum.specs.declared.decide.Verdict.{Verdict}
 use Rattle.quorum.specs.declared.decide.Verdict.TheVariants.{Highest, Due as Delayed, Previous}
-use Rattle.quorum.specs.Slip.{receipt_of, reading_of}
-use Rattle.quorum.specs.Replies.{with_receipt, with_reading}
+use Rattle.quorum.specs.Slip.{reading_of}
+use Rattle.quorum.specs.Replies.{with_reading}
 use Rattle.settings.specs.declared.checked.Checked.{Checked}
 use Rattle.client.specs.declared.client.Phase.{Phase}
 use Rattle.client.specs.declared.client.Phase.TheVariants.{Idle, Writing, Asking, Due, Telling}
@@ -136,28 +136,18 @@ module _ (k : Checked) (log : List Entry) (w : World) (r : Register) (m : Messag
     ends_round judge Due a h l e u c an re = grind arith
     ends_round judge (Writing rs) a h l e u c an re =
         let t : ReceiptsCounted (k.replicas - k.tolerated) rs h.0 m = receipts_counted (k.replicas - k.tolerated) rs h.0 m h.2 u in
-        let total : (with_receipt rs (receipt_of m)).got ≡ suc (length h.0) = t.total in
-        let short : rs.got < k.replicas - k.tolerated = h.2.short in
-        let got : rs.got ≡ length h.0 = h.2.got in
-        let full : k.replicas - k.tolerated ≤ (with_receipt rs (receipt_of m)).got = leb-true _ _ c in
-        ends model.writes h.0 1 a (counting model.writes h.0 (ap kind_of (eqb-true m.kind 4 e)) h.1 t.fresh) (inl (refl, omega (arith, three_fit k), refl)) l an re
+        ends model.writes h.0 1 a (counting model.writes h.0 (ap kind_of (eqb-true m.kind 4 e)) h.1 t.fresh)
+        (inl (refl, omega (arith, three_fit k, t.total, h.2.short, h.2.got, leb-true _ _ c), refl)) l an re
     ends_round judge (Telling rs) a h l e u c an re =
         let t : ReceiptsCounted (2 * k.tolerated + 1) rs h.0 m = receipts_counted (2 * k.tolerated + 1) rs h.0 m h.2 u in
-        let total : (with_receipt rs (receipt_of m)).got ≡ suc (length h.0) = t.total in
-        let short : rs.got < 2 * k.tolerated + 1 = h.2.short in
-        let got : rs.got ≡ length h.0 = h.2.got in
-        let full : 2 * k.tolerated + 1 ≤ (with_receipt rs (receipt_of m)).got = leb-true _ _ c in
-        ends model.tells h.0 2 a (counting model.tells h.0 (ap kind_of (eqb-true m.kind 6 e)) h.1 t.fresh) (inr (refl, omega arith, refl)) l an re
+        ends model.tells h.0 2 a (counting model.tells h.0 (ap kind_of (eqb-true m.kind 6 e)) h.1 t.fresh)
+        (inr (refl, omega (arith, t.total, h.2.short, h.2.got, leb-true _ _ c), refl)) l an re
     ends_round judge (Asking rs) a h l e u c an re =
         let t : ReadingsCounted (k.replicas - k.tolerated) rs h.0 m = readings_counted (k.replicas - k.tolerated) rs h.0 m g.proper.byte h.2 u in
-        let total : (with_reading rs (reading_of m)).got ≡ suc (length h.0) = t.total in
-        let short : rs.got < k.replicas - k.tolerated = h.2.short in
-        let got : rs.got ≡ length h.0 = h.2.got in
-        let full : k.replicas - k.tolerated ≤ (with_reading rs (reading_of m)).got = leb-true _ _ c in
         let xs : List Reading = take (with_reading rs (reading_of m)).got (with_reading rs (reading_of m)).slips in
         let many : suc (length h.0) ≡ length xs = simp (length-reverse, length-map) at (ap length t.counted.same) in
         let j : Judged k xs (model.slip (msg_of m) ∷ h.0) = judge k xs (model.slip (msg_of m) ∷ h.0) t.counted (omega arith) in
-        judged h.0 xs (counting model.reads h.0 (ap kind_of (eqb-true m.kind 5 e)) h.1 t.fresh) (omega (arith, three_fit k)) l j
+        judged h.0 xs (counting model.reads h.0 (ap kind_of (eqb-true m.kind 5 e)) h.1 t.fresh) (omega (arith, three_fit k, t.total, h.2.short, h.2.got, leb-true _ _ c)) l j
         (judgement k xs).verdict a j.verdict an re
 
 -- ---- every way of a reply
