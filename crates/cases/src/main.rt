@@ -1,6 +1,6 @@
 //! Many sheets, each over a channel of its own: what the programs drill and rehearse print for each of them.
-//! On standard input a sheet stands after the form of its channel (q, s, d, e or f), two replica numbers of three digits and
-//! its length in six digits. What it prints comes after a line with a dash.
+//! On standard input a sheet stands after the form of its channel (q, s, d, e or f), two replica numbers of three
+//! digits and its length in six digits. What it prints comes after a line with a dash.
 #![tactic(auto)]
 
 use console::print::print;

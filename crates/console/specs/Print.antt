@@ -1,5 +1,5 @@
 -- What a program prints of a sheet.
-use Rattle.std.specs.Prelude.{◌≡◌, ℕ, List, [], ◌∷◌, ◌++◌, length, take, Option, Result, Ok, Err}
+use Rattle.std.specs.Prelude.{◌≡◌, ℕ, List, [], ◌∷◌, ◌++◌, length, take, Option, IfSome, Result, Ok, Err}
 use Rattle.std.specs.Io.KnownBytes.{Appends}
 use Rattle.runner.specs.declared.choice.Choice.{Choice}
 use Rattle.runner.specs.declared.fault.DrillFault.{DrillFault}
@@ -8,7 +8,7 @@ use Rattle.wire.specs.Channel.{empty}
 use Rattle.runner.specs.Memory.{Memory}
 use Rattle.runner.specs.Rehearse.{Rehearsed}
 use Rattle.runner.specs.Choice.{room_of}
-use Rattle.console.specs.Sizes.{queue_cells, places, listing_bytes}
+use Rattle.console.specs.Sizes.{queue_cells, places, sheet_bytes, listing_bytes}
 
 -- the first n bytes of the space for the listing, or the fault and a line end
 abbrev pub told : Result ℕ DrillFault → List ℕ → List ℕ
@@ -29,3 +29,7 @@ pub record Told (choice : Choice) (sheet bytes : List ℕ) : Type 0 where
 -- what was printed before, if it is known, and then what is told of the sheet
 abbrev pub Prints : Choice → List ℕ → Option (List ℕ) → Option (List ℕ) → Type 0
 Prints choice sheet old new = (bytes : List ℕ) × Told choice sheet bytes × Appends old new bytes
+
+-- the same for the first bytes of an input, if it is known
+abbrev pub PrintsInput : Choice → Option (List ℕ) → Option (List ℕ) → Option (List ℕ) → Type 0
+PrintsInput choice input old new = IfSome input (λ given. Prints choice (take sheet_bytes given) old new)

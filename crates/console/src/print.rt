@@ -45,8 +45,8 @@ fn write_outcome<W: Write>(
     }
 }
 
-/// Rehearses the sheet over a new channel, and writes its listing, or a line with the fault. An error is of memory, or of the
-/// writer, which may then hold a part.
+/// Rehearses the sheet over a new channel, and writes its listing, or a line with the fault. An error is of memory, or
+/// of the writer, which may then hold a part.
 pub fn print<W: Write>(alloc: Global, choice: Choice, sheet: &[u8], w: &mut W) -> io::Result<()>
     ensures { OnOk result (Prints choice sheet.now (W.contents w.old) (W.contents w.new)) }
 {

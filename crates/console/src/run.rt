@@ -1,6 +1,6 @@
 //! A whole program: a sheet in, what comes of it out.
-ghost use Rattle.std.specs.Prelude.{◌≡◌, ℕ, List, take, IfOk, IfSome, OnOk};
-ghost use Rattle.console.specs.Print.{Prints};
+ghost use Rattle.std.specs.Prelude.{◌≡◌, take, IfOk, IfSome, OnOk};
+ghost use Rattle.console.specs.Print.{PrintsInput};
 ghost use Rattle.console.specs.Sizes.{sheet_bytes};
 
 use crate::print::print;
@@ -26,7 +26,7 @@ pub fn run<R: Read + Drop, W: Write>(
     input: R,
     w: &mut W,
 ) -> io::Result<()>
-    ensures { OnOk result (IfSome (R.remaining input) (λ given. Prints choice (take sheet_bytes given) (W.contents w.old) (W.contents w.new))) }
+    ensures { OnOk result (PrintsInput choice (R.remaining input) (W.contents w.old) (W.contents w.new)) }
 {
     let sheet = read_sheet(alloc, input)?;
     print(alloc, choice, &sheet, w)

@@ -45,8 +45,8 @@ fn gives(alloc: Global, choice: Choice, listing: &[u8]) -> io::Result<bool> {
 
 #[test]
 fn a_layer_delays_the_replica_named(rt: HostRuntime) -> io::Result<()> {
-    let two: &[u8] =
-        b"100 0 0 0 0\n100 2 0 0 0\n101 0 0 0 0\n101 0 0 0 0\n101 0 0 0 0\n104 0 0 0 0\n104 0 0 0 0\n105 0 1 7 1\n102 0 0 0 0\n18 0 0 0 0\n18 0 0 0 0\n";
+    let two: &[u8] = b"100 0 0 0 0\n100 2 0 0 0\n101 0 0 0 0\n101 0 0 0 0\n101 0 0 0 0\n\
+        104 0 0 0 0\n104 0 0 0 0\n105 0 1 7 1\n102 0 0 0 0\n18 0 0 0 0\n18 0 0 0 0\n";
     let holds = gives(rt.alloc(), Choice::DelayQueue(2), two)?;
     assert!(rt; holds);
     Ok(())
@@ -55,10 +55,10 @@ fn a_layer_delays_the_replica_named(rt: HostRuntime) -> io::Result<()> {
 // The upper layer is named first: the one listing comes with no other lower layer, the other with no other upper one.
 #[test]
 fn two_layers_delay_the_replicas_named(rt: HostRuntime) -> io::Result<()> {
-    let lower_two: &[u8] =
-        b"100 0 0 0 0\n100 2 0 0 0\n101 0 0 0 0\n101 0 0 0 0\n104 0 0 0 0\n104 0 0 0 0\n102 0 0 0 0\n101 0 0 0 0\n105 0 1 7 1\n18 0 0 0 0\n18 0 0 0 0\n";
-    let upper_two: &[u8] =
-        b"100 0 0 0 0\n100 2 0 0 0\n101 0 0 0 0\n101 0 0 0 0\n104 0 0 0 0\n104 0 0 0 0\n101 0 0 0 0\n105 0 1 7 1\n102 0 0 0 0\n18 0 0 0 0\n18 0 0 0 0\n";
+    let lower_two: &[u8] = b"100 0 0 0 0\n100 2 0 0 0\n101 0 0 0 0\n101 0 0 0 0\n104 0 0 0 0\n\
+        104 0 0 0 0\n102 0 0 0 0\n101 0 0 0 0\n105 0 1 7 1\n18 0 0 0 0\n18 0 0 0 0\n";
+    let upper_two: &[u8] = b"100 0 0 0 0\n100 2 0 0 0\n101 0 0 0 0\n101 0 0 0 0\n104 0 0 0 0\n\
+        104 0 0 0 0\n101 0 0 0 0\n105 0 1 7 1\n102 0 0 0 0\n18 0 0 0 0\n18 0 0 0 0\n";
     let lower = gives(rt.alloc(), Choice::DelayTwice(1, 2), lower_two)?;
     let upper = gives(rt.alloc(), Choice::DelayTwice(2, 1), upper_two)?;
     assert!(rt; lower && upper);

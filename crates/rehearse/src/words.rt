@@ -1,12 +1,12 @@
 //! Which channel the program's arguments name.
-ghost use Rattle.std.specs.Prelude.{map, MatchOption};
-ghost use Rattle.rehearse.specs.Words.{Names};
+ghost use Rattle.std.specs.Prelude.{map};
+ghost use Rattle.rehearse.specs.Words.{Chosen};
 
 use runner::choice::Choice;
 
 /// The choice of the words behind the program's own name; none for any other words.
 pub(crate) fn chosen(words: &[&str]) -> Option<Choice>
-    ensures { MatchOption result ((c : _) → ¬ (Names (map (λ w. w.now) words.now) c)) (λ c. Names (map (λ w. w.now) words.now) c) }
+    ensures { Chosen (map (λ w. w.now) words.now) result }
 {
     match *words {
         ["queue"] => Some(Choice::Queue),

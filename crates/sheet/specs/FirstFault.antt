@@ -35,7 +35,8 @@ pub data Fails (p : Placed) (left : List ℕ) (line : ℕ) (f : Shown) : Type 0 
   -- they are the word, and end where its separator is due
   cut : left ≡ p.word → f ≡ shows 33 line [] → Fails p left line f
   -- they have the word and then another separator
-  parted : (b : ℕ) (more : List ℕ) → left ≡ p.word ++ (b ∷ more) → word_of left ≡ p.word → (b ≢ p.separator) → f ≡ shows 31 line p.word → Fails p left line f
+  parted : (b : ℕ) (more : List ℕ) → left ≡ p.word ++ (b ∷ more) → word_of left ≡ p.word → (b ≢ p.separator)
+      → f ≡ shows 31 line p.word → Fails p left line f
 
 -- the bytes agree with the words up to a place, and fail there
 pub record Fault (ps : List Placed) (bytes : List ℕ) (line : ℕ) (f : Shown) : Type 0 where

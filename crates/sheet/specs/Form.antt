@@ -46,7 +46,8 @@ title_words = fixed_words (codes "settings") 32 ++ fixed_words (codes "5") 10
 -- the four numbers and the initial value
 abbrev pub settings_words : Settings → List Placed
 settings_words s =
-    number_words number_max 32 s.replicas ++ (number_words number_max 32 s.tolerated ++ (number_words number_max 32 s.groups ++ (number_words number_max 32 s.readers ++ value_words 10 s.initial)))
+    number_words number_max 32 s.replicas ++ (number_words number_max 32 s.tolerated
+    ++ (number_words number_max 32 s.groups ++ (number_words number_max 32 s.readers ++ value_words 10 s.initial)))
 
 -- `orders`
 abbrev pub orders_words : List Placed

@@ -1,12 +1,14 @@
 -- The bytes of a listing, and what it means to write some of them after others.
-use Rattle.std.specs.Prelude.{◌≡◌, ℕ, ◌+◌, ◌<◌, ◌≤◌, List, [], ◌++◌, length, take, pos, decimal}
+use Rattle.std.specs.Prelude.{◌≡◌, ℕ, ◌+◌, ◌<◌, ◌≤◌, List, [], ◌++◌, length, take, pos, decimal, Result, MatchResult}
 use Rattle.std.specs.Fmt.{signed_decimal}
 use Rattle.std.specs.List.{flat_map}
 use Rattle.orders.specs.Answer.{listed_as}
 use Rattle.orders.specs.declared.answer.Answer.{Answer}
 use Rattle.orders.specs.declared.answer.Listed.{Listed}
 use Rattle.sheet.specs.Word.{closed}
-use Rattle.sheet.specs.Fault.{Shown, shows}
+use Rattle.sheet.specs.declared.fault.SheetFault.{SheetFault}
+use Rattle.sheet.specs.declared.page.Position.{Position}
+use Rattle.sheet.specs.Fault.{Shown, shows, shown}
 
 -- version, value and rounds, and a line end
 abbrev pub end_of : Listed → List ℕ
@@ -40,3 +42,8 @@ pub record CutShort (answers : List Answer) (out : List ℕ) (len : ℕ) (f : Sh
   pub fits : len ≤ length out
   pub bytes : take len out ≡ listing_of (take lines answers)
   pub next_too_long : length out < length (listing_of (take (lines + 1) answers))
+
+-- the listing is written from the start of the space, or it is cut short
+abbrev pub Lists : List Answer → List ℕ → Position → Result ℕ SheetFault → Type 0
+Lists answers out at r =
+    MatchResult r (λ n. Written answers out at.len n) (λ f. CutShort answers out at.len (shown f))

@@ -1,6 +1,5 @@
 //! A cursor over a sheet: it takes a word and its separator at a time, and counts line ends.
-ghost use Rattle.std.specs.Prelude.{◌≡◌, ◌+◌, ◌^◌, ◌<◌, [], length, MatchResult, ◌≢◌};
-ghost use Rattle.sheet.specs.Fault.{shown, shows};
+ghost use Rattle.std.specs.Prelude.{◌≡◌, ◌+◌, ◌^◌, ◌<◌, length};
 ghost use Rattle.sheet.specs.Word.{word_of};
 
 use crate::fault::SheetFault;
@@ -14,11 +13,11 @@ pub(crate) struct Cursor<'a> {
 }
 
 impl<'a> Cursor<'a> {
-    ghost use Rattle.sheet.specs.Steps.{Closes};
+    ghost use Rattle.sheet.specs.Steps.{Sees, Closes, Finishes};
 
     // The word that stands next.
     pub(crate) fn word(&self) -> Result<&'a [u8], SheetFault<'a>>
-        ensures { MatchResult result (λ w. (w.now ≡ word_of self.now.rest.now) × (0 < length self.now.rest.now)) (λ f. (self.now.rest.now ≡ []) × (shown f ≡ shows 33 self.now.line [])) }
+        ensures { Sees self.now result }
     {
         let rest = self.rest;
         if rest.is_empty() {
@@ -46,7 +45,7 @@ impl<'a> Cursor<'a> {
 
     // Nothing may stand behind the last order.
     pub(crate) fn finish(&self) -> Result<(), SheetFault<'a>>
-        ensures { MatchResult result (λ _. self.now.rest.now ≡ []) (λ f. (self.now.rest.now ≢ []) × (shown f ≡ shows 34 self.now.line self.now.rest.now)) }
+        ensures { Finishes self.now result }
     {
         if self.rest.is_empty() {
             return Ok(());

@@ -1,5 +1,5 @@
 //! Single fields of a sheet: a word that is due, and its separator.
-ghost use Rattle.std.specs.Prelude.{◌≡◌, ◌^◌, ◌<◌, ◌≤◌};
+ghost use Rattle.std.specs.Prelude.{◌<◌, ◌≤◌};
 ghost use Rattle.sheet.specs.Form.{fixed_words, number_words, value_words, SmallValue};
 ghost use Rattle.sheet.specs.Steps.{Reads, ReadsField};
 

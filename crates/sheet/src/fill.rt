@@ -1,7 +1,6 @@
 //! The lines of the orders, each filled into its place.
-ghost use Rattle.std.specs.Prelude.{◌^◌, ◌<◌, ◌≤◌, length, MatchResult};
+ghost use Rattle.std.specs.Prelude.{◌<◌, ◌≤◌, length};
 ghost use Rattle.settings.specs.Limits.{orders_max};
-ghost use Rattle.sheet.specs.Fault.{shown};
 ghost use Rattle.sheet.specs.Steps.{Fills};
 
 use crate::cursor::Cursor;

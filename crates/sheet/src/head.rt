@@ -1,6 +1,5 @@
 //! The first three lines of a sheet: the title, the settings and the number of orders.
-ghost use Rattle.std.specs.Prelude.{◌≡◌, ◌^◌, ◌<◌, MatchResult};
-ghost use Rattle.sheet.specs.Fault.{shown};
+ghost use Rattle.std.specs.Prelude.{◌<◌};
 ghost use Rattle.sheet.specs.Form.{title_words, settings_words, orders_words, SmallSettings};
 ghost use Rattle.sheet.specs.Steps.{Reads, ReadsCount, ReadsHead};
 

@@ -1,9 +1,8 @@
 //! The kinds of orders, by the word at the start of a line.
-ghost use Rattle.std.specs.Prelude.{◌≡◌, MatchResult};
-ghost use Rattle.sheet.specs.Fault.{shown};
+ghost use Rattle.std.specs.Prelude.{◌≡◌};
 ghost use Rattle.sheet.specs.Form.{kind};
 ghost use Rattle.sheet.specs.Kind.{word_for, separator_for, kind_at};
-ghost use Rattle.sheet.specs.Steps.{Unfit};
+ghost use Rattle.sheet.specs.Steps.{Judges};
 
 use crate::fault::SheetFault;
 
@@ -47,7 +46,7 @@ fn kind_of(word: &[u8]) -> Option<Kind>
 }
 
 pub(crate) fn kind_in<'a>(word: &'a [u8], line: usize) -> Result<Kind, SheetFault<'a>>
-    ensures { MatchResult result (λ k. word.now ≡ word_for k) (λ f. Unfit kind word.now line (shown f)) }
+    ensures { Judges (λ k. word.now ≡ word_for k) kind word.now line result }
 {
     kind_of(word).ok_or(SheetFault::Form { line, word })
 }

@@ -1,17 +1,17 @@
 //! The listing writer: whole lines, or none of a line that does not fit.
-ghost use Rattle.std.specs.Prelude.{◌≡◌, is_ok, IfErr, MatchResult};
+ghost use Rattle.std.specs.Prelude.{◌≡◌, is_ok, IfErr};
 ghost use Rattle.sheet.specs.declared.fault.SheetFault.TheVariants.{Listing};
 ghost use Rattle.sheet.specs.Fault.{shown};
 ghost use Rattle.sheet.specs.Page.{Put, Lined};
-ghost use Rattle.sheet.specs.Listing.{plain_answer, line_of, Written, CutShort};
+ghost use Rattle.sheet.specs.Listing.{plain_answer, line_of, Lists};
 
 use crate::fault::SheetFault;
 use crate::page::{Full, LineGuard, Position, digit};
 use orders::answer::{Answer, Listed};
 
 impl Position {
-    // A line that shows no version, value and rounds, as most do. With a code from 100 to 109 and a short who it is one array,
-    // which costs less than its words one by one.
+    // A line that shows no version, value and rounds, as most do. With a code from 100 to 109 and a short who it is one
+    // array, which costs less than its words one by one.
     #[inline(always)]
     fn plain(&mut self, out: &mut [u8], code: u32, who: u32) -> Result<(), Full>
         ensures { Put out.old self.old.len out.new self.new.len (line_of (plain_answer code who)) (is_ok result) }
@@ -77,7 +77,7 @@ pub fn write_listing(
     out: &mut [u8],
     at: &mut Position,
 ) -> Result<usize, SheetFault<'static>>
-    ensures { MatchResult result (λ n. Written answers.now out.new at.new.len n) (λ f. CutShort answers.now out.new at.new.len (shown f)) }
+    ensures { Lists answers.now out.new at.new result }
 {
     at.len = 0;
     for a in answers {

@@ -1,10 +1,8 @@
 //! Numbers and values: a word is judged, its form before its size.
-ghost use Rattle.std.specs.Prelude.{◌≡◌, ◌^◌, ◌<◌, ◌≤◌, true, MatchOption, MatchResult};
-ghost use Rattle.settings.specs.Limits.{orders_max};
+ghost use Rattle.std.specs.Prelude.{◌≡◌, ◌^◌, ◌<◌, ◌≤◌, true, MatchOption};
 ghost use Rattle.sheet.specs.Word.{amount, numeral};
-ghost use Rattle.sheet.specs.Fault.{shown, shows};
 ghost use Rattle.sheet.specs.Form.{number, value, fixed};
-ghost use Rattle.sheet.specs.Steps.{Counts, Values, Unfit, Uncounted};
+ghost use Rattle.sheet.specs.Steps.{Counts, Values, Judges, JudgesCount, Bounds};
 
 use crate::fault::SheetFault;
 use crate::word::Word;
@@ -27,7 +25,7 @@ fn bounded<'a>(
     line: usize,
 ) -> Result<u32, SheetFault<'a>>
     requires { numeral digits.now ≡ true }
-    ensures { MatchResult result (λ n. (n ≡ amount digits.now) × (n ≤ limit)) (λ f. (limit < amount digits.now) × (shown f ≡ shows 32 line word.now)) }
+    ensures { Bounds limit digits.now word.now line result }
 {
     amount_of(digits)
         .filter(|n| *n <= limit)
@@ -35,7 +33,7 @@ fn bounded<'a>(
 }
 
 pub(crate) fn number_in<'a>(word: &'a [u8], limit: u32, line: usize) -> Result<u32, SheetFault<'a>>
-    ensures { MatchResult result (λ n. Counts limit word.now n) (λ f. Unfit (number limit) word.now line (shown f)) }
+    ensures { Judges (Counts limit word.now) (number limit) word.now line result }
 {
     match Word::judge(word) {
         Word::Digits(digits) => bounded(word, digits, limit, line),
@@ -44,7 +42,7 @@ pub(crate) fn number_in<'a>(word: &'a [u8], limit: u32, line: usize) -> Result<u
 }
 
 pub(crate) fn value_in<'a>(word: &'a [u8], line: usize) -> Result<i32, SheetFault<'a>>
-    ensures { MatchResult result (λ z. Values word.now z) (λ f. Unfit value word.now line (shown f)) }
+    ensures { Judges (Values word.now) value word.now line result }
 {
     match Word::judge(word) {
         Word::Digits(digits) => Ok(bounded(word, digits, NUMBER_MAX, line)? as i32),
@@ -54,7 +52,7 @@ pub(crate) fn value_in<'a>(word: &'a [u8], line: usize) -> Result<i32, SheetFaul
 }
 
 pub(crate) fn fixed_in<'a>(word: &'a [u8], text: &[u8], line: usize) -> Result<(), SheetFault<'a>>
-    ensures { MatchResult result (λ _. word.now ≡ text.now) (λ f. Unfit (fixed text.now) word.now line (shown f)) }
+    ensures { Judges (λ _. word.now ≡ text.now) (fixed text.now) word.now line result }
 {
     if word == text {
         return Ok(());
@@ -68,7 +66,7 @@ pub(crate) fn count_in<'a>(
     places: usize,
     line: usize,
 ) -> Result<usize, SheetFault<'a>>
-    ensures { MatchResult result (λ n. Counts orders_max word.now n × (n ≤ places)) (λ f. Uncounted places word.now line (shown f)) }
+    ensures { JudgesCount places word.now line result }
 {
     let count = number_in(word, ORDERS_MAX, line)? as usize;
     if count > places {

@@ -1,5 +1,5 @@
 //! The line of one order.
-ghost use Rattle.std.specs.Prelude.{◌≡◌, ◌^◌, ◌<◌};
+ghost use Rattle.std.specs.Prelude.{◌<◌};
 ghost use Rattle.sheet.specs.Form.{order_words, kind_words, about_words, FineOrder, OfKind};
 ghost use Rattle.sheet.specs.Steps.{Reads};
 

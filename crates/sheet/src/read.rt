@@ -1,9 +1,5 @@
 //! The sheet reader: settings are handed over, and orders are filled into the places handed in.
-ghost use Rattle.std.specs.Prelude.{◌≡◌, ◌≤◌, List, length};
-ghost use Rattle.sheet.specs.Fault.{Shown};
-ghost use Rattle.sheet.specs.FirstFault.{FirstFault};
-ghost use Rattle.sheet.specs.Form.{Writable, sheet_of};
-ghost use Rattle.sheet.specs.Read.{Outcome, GivenAs, RefusedAs};
+ghost use Rattle.sheet.specs.Read.{Outcome, ReadsExactly, RefusesExactly};
 
 use crate::cursor::Cursor;
 use crate::fault::SheetFault;
@@ -20,8 +16,8 @@ pub struct Reading {
 /// Reads a sheet. Orders before a fault are filled, and settings are handed over on success only.
 pub fn read<'a>(sheet: &'a [u8], orders: &mut [Order]) -> Result<Reading, SheetFault<'a>>
     ensures outcome { Outcome sheet.now orders.old orders.new result }
-    ensures exact { (s : Settings) (os : List Order) → Writable s os → length os ≤ length orders.old → sheet.now ≡ sheet_of s os → GivenAs s os orders.new result }
-    ensures only { (f : Shown) (filled : List Order) → FirstFault sheet.now (length orders.old) f filled → RefusedAs f filled orders.new result }
+    ensures exact { ReadsExactly sheet.now orders.old orders.new result }
+    ensures only { RefusesExactly sheet.now orders.old orders.new result }
 {
     let mut cursor = Cursor {
         rest: sheet,
