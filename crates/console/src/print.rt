@@ -10,7 +10,7 @@ use orders::order::Order;
 use runner::choice::{Choice, rehearse_by};
 use runner::fault::DrillFault;
 use runner::memory::Memory;
-use sheet::page::Position;
+use sheet::Position;
 use std::alloc::Global;
 use std::io::{self, Write};
 use wire::message::Message;

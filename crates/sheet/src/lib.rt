@@ -13,3 +13,8 @@ mod order;
 pub mod page;
 pub mod read;
 mod word;
+
+pub use crate::fault::SheetFault;
+pub use crate::listing::write_listing;
+pub use crate::page::Position;
+pub use crate::read::Reading;

@@ -51,12 +51,8 @@ impl Position {
     }
 }
 
-/// A line, or nothing: the length is then where it was.
-pub(crate) fn write_line(
-    listed: Listed,
-    out: &mut [u8],
-    at: &mut Position,
-) -> Result<(), SheetFault<'static>>
+// A line, or nothing: the length is then where it was.
+fn write_line(listed: Listed, out: &mut [u8], at: &mut Position) -> Result<(), SheetFault<'static>>
     ensures wrote { Lined out.old at.old.len out.new at.new.len (line_of listed) (is_ok result) }
     ensures says { IfErr result (λ f. shown f ≡ shown Listing) }
 {

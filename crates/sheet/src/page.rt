@@ -10,7 +10,7 @@ use itoa::{Buffer, Integer};
 pub(crate) struct Full;
 
 /// Where a listing stands: how many bytes of its space are written.
-#[derive(Clone, Copy)]
+#[derive(Debug, Clone, Copy, PartialEq, Eq)]
 pub struct Position {
     pub len: usize,
 }

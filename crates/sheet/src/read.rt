@@ -7,7 +7,7 @@ use orders::order::Order;
 use settings::given::Settings;
 
 /// What a sheet gives: its settings, and how many orders were filled.
-#[derive(Clone, Copy)]
+#[derive(Debug, Clone, Copy, PartialEq, Eq)]
 pub struct Reading {
     pub settings: Settings,
     pub count: usize,

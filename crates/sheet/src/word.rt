@@ -5,7 +5,7 @@ ghost use Rattle.sheet.specs.Word.{in_word, numeral, sort_of, sorted};
 
 /// A judged word. Each case holds a part of the sheet.
 #[derive(Clone, Copy)]
-pub enum Word<'a> {
+pub(crate) enum Word<'a> {
     /// a number
     Digits(&'a [u8]),
     /// a number other than 0 after a minus sign, without the sign
@@ -34,7 +34,7 @@ fn is_numeral(word: &[u8]) -> bool
 
 impl<'a> Word<'a> {
     /// No number has a leading zero, and `-0` is none: such a word is a name, as the empty one is.
-    pub fn judge(word: &'a [u8]) -> Word<'a>
+    pub(crate) fn judge(word: &'a [u8]) -> Word<'a>
         ensures { sort_of result ≡ sorted word.now }
     {
         match word {

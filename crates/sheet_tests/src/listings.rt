@@ -1,7 +1,6 @@
 //! Listings that fit, and one that is cut short.
 use orders::answer::{Answer, Ending};
-use sheet::listing::write_listing;
-use sheet::page::Position;
+use sheet::{Position, write_listing};
 use std::test::Fail;
 
 const ANSWERS: [Answer; 2] = [
