@@ -3,9 +3,8 @@ use Rattle.std.proofs.Common.{◌≡◌, ℕ, zero, suc, ◌+◌, ◌-◌, ◌*�
 use Rattle.std.specs.List.{AllByRecursion}
 use Rattle.std.specs.List.Sorted.{IsPermutation}
 use Rattle.std.proofs.lemmas.List.{map-append, length-replicate, length-set}
-use Rattle.std.specs.Option.{option_or}
+use Rattle.std.proofs.lemmas.Bool.{ltb-false, cases_eq, ne_eqb, eq-eqb, cond_both, cond-true, cond-false}
 use Rattle.std.proofs.lemmas.Bool.Decides.{nat_tests}
-use Rattle.std.proofs.lemmas.Bool.{ltb-false, leb-false, not-false, or_parts, cases_eq, ne_eqb, eq-eqb, cond_both, cond-true, cond-false}
 use Rattle.std.proofs.lemmas.Nat.{pow_below, mod_below}
 use Rattle.wire.specs.declared.message.Message.{Message}
 use Rattle.orders.specs.declared.order.Order.{Order}
@@ -94,52 +93,21 @@ mark_byte k c =
 
 -- ---- refusals
 
-pub not_refused : {A : Type 0} (b : Bool) (x : A) (y : Option A) → cond b (Some x) y ≡ None → (b ≡ false) × (y ≡ None)
-not_refused true x y e = grind arith
-not_refused false x y e = (refl, e)
-
-both_none : {A : Type 0} (x y : Option A) → option_or x y ≡ None → (x ≡ None) × (y ≡ None)
-both_none None y e = (refl, e)
-both_none (Some a) y e = cc
-
-room_left : (k : Checked) (free kind : ℕ) → refuse.room_refusal k free kind ≡ None → set_size k kind ≤ free
-room_left k free kind e = grind (arith, nat_tests)
-
 -- what an accepted write, read and tell passed
 pub write_passed : (r : Register) (free : ℕ) (z : ℤ) → refuse.write_refusal r free z ≡ None
     → ((client_at r 0).out ≡ false) × (is_idle (client_at r 0).phase ≡ true) × ((client_at r 0).round < 2000000) × (set_size r.settings 1 ≤ free)
-write_passed r free z e =
-    let e0 = not_refused _ _ _ e in
-    let e1 = not_refused _ _ _ e0.1 in
-    let e2 = not_refused _ _ _ e1.1 in
-    let e3 = not_refused _ _ _ e2.1 in
-    (e0.0, not-false _ e1.0, leb-false _ _ e3.0, room_left r.settings free 1 e3.1)
-
--- what a reader that can be called passed
-reader_passed : (r : Register) (c : ℕ) → refuse.reader_refusal r c ≡ None → (refuse.no_reader r c ≡ false) × ((client_at r c).out ≡ false)
-reader_passed r c e =
-    let e0 = not_refused _ _ _ e in
-    (e0.0, (not_refused _ _ _ e0.1).0)
+write_passed r free z e = grind (arith, nat_tests)
 
 pub read_passed : (r : Register) (free c : ℕ) → refuse.read_refusal r free c ≡ None
     → (refuse.no_reader r c ≡ false) × ((client_at r c).out ≡ false) × (is_idle (client_at r c).phase ≡ true) × ((client_at r c).round < 2000000) × (set_size r.settings 2 ≤ free)
-read_passed r free c e =
-    let b = both_none _ _ e in
-    let p = reader_passed r c b.0 in
-    let e2 = not_refused _ _ _ b.1 in
-    let e3 = not_refused _ _ _ e2.1 in
-    (p.0, p.1, not-false _ e2.0, leb-false _ _ e3.0, room_left r.settings free 2 e3.1)
+read_passed r free c e = grind (arith, nat_tests)
 
 pub tell_passed : (r : Register) (free c : ℕ) → refuse.tell_refusal r free c ≡ None
     → (refuse.no_reader r c ≡ false) × ((client_at r c).out ≡ false) × (is_due (client_at r c).phase ≡ true) × (set_size r.settings 3 ≤ free)
-tell_passed r free c e =
-    let b = both_none _ _ e in
-    let p = reader_passed r c b.0 in
-    let e2 = not_refused _ _ _ b.1 in
-    (p.0, p.1, not-false _ e2.0, room_left r.settings free 3 e2.1)
+tell_passed r free c e = grind (arith, nat_tests)
 
 reader_below : (r : Register) (c : ℕ) → refuse.no_reader r c ≡ false → c ≤ r.settings.readers
-reader_below r c e = ltb-false r.settings.readers c (or_parts (eqb c 0) (ltb r.settings.readers c) e).1
+reader_below r c e = grind (arith, nat_tests)
 
 idle_matches : (k : Checked) (p : Phase) (q : model.Phase) → is_idle p ≡ true → PhasesMatch k p q → q ≡ model.idle
 idle_matches k Idle q e h = h
@@ -190,7 +158,48 @@ register_client k r b c x y ms l h o m =
       clients = clients_set k r.clients b.clients b.client_out c x y l h.clients (o ∙ h.clients.out c l) m;
     }
 
+-- ---- withdrawals
+
+count_below : (p : ℕ → Bool) (i n : ℕ) → n ≤ i → model.out_count (put p i true) n ≡ model.out_count p n
+count_below p i zero l = refl
+count_below p i (suc n) l =
+    let e : eqb n i ≡ false = ne_eqb n i (λ q. omega arith) in
+    let s : put p i true n ≡ p n = cond-false (eqb n i) true (p n) e in
+    let ih : model.out_count (put p i true) n ≡ model.out_count p n = count_below p i n (omega arith) in
+    let c : cond {A = ℕ} (put p i true n) 1 0 ≡ cond (p n) 1 0 = ap (λ q. cond {A = ℕ} q 1 0) s in
+    omega arith
+
+count_put : (p : ℕ → Bool) (i n : ℕ) → i < n → p i ≡ false → model.out_count (put p i true) n ≡ model.out_count p n + 1
+count_put p i zero l f = absurd (omega arith)
+count_put p i (suc n) l f =
+    elim (cases_eq n i) [
+      | inl q ↦
+          let s : put p i true n ≡ true = cond-true (eqb n i) true (p n) (eq-eqb n i q) in
+          let c : cond {A = ℕ} (put p i true n) 1 0 ≡ 1 = ap (λ a. cond {A = ℕ} a 1 0) s in
+          let d : cond {A = ℕ} (p n) 1 0 ≡ 0 = ap (λ a. cond {A = ℕ} a 1 0) (ap p q ∙ f) in
+          let g : model.out_count (put p i true) n ≡ model.out_count p n = count_below p i n (omega arith) in
+          omega arith
+      | inr q ↦
+          let s : put p i true n ≡ p n = cond-false (eqb n i) true (p n) (ne_eqb n i q) in
+          let c : cond {A = ℕ} (put p i true n) 1 0 ≡ cond (p n) 1 0 = ap (λ a. cond {A = ℕ} a 1 0) s in
+          let g : model.out_count (put p i true) n ≡ model.out_count p n + 1 = count_put p i n (omega (arith, q)) f in
+          omega arith
+    ]
+
+replica_passed : (r : Register) (i : ℕ) → refuse.replica_out_refusal r i ≡ None
+    → (i < r.settings.replicas) × (get_or r.out i false ≡ false) × (r.outs < r.settings.tolerated)
+replica_passed r i e = grind (arith, nat_tests)
+
+client_passed : (r : Register) (c : ℕ) → refuse.client_out_refusal r c ≡ None → c ≤ r.settings.readers
+client_passed r c e = grind (arith, nat_tests)
+
 -- ---- each call, accepted
+
+-- an accepted call leads from one world to the other, and so does the model
+abbrev pub Reaches : Checked → List Entry → World → World → List Message → Order → Type 0
+Reaches k log v w ms o =
+    refusal v.register v.free o ≡ None → w.register ≡ accepted v.register o → IsPermutation w.waiting (put_out v.register o ++ v.waiting)
+    → Reached k (entry o (Accepted (named o)) ms ∷ log) w
 
 module _ (k : Checked) (log : List Entry) (v w : World) (b : model.State) (t : model.Trace (params_of k) k.initial log b) (h : Matches k v b) (ms : List Message) where
   abbrev r : Register
@@ -227,7 +236,7 @@ module _ (k : Checked) (log : List Entry) (v w : World) (b : model.State) (t : m
         (subst (λ q. Same (new ++ q) (map msg_of (copies m (count r.settings) ++ v.waiting))) h.waiting (set_same m kd c y.round (model.carried (params_of k) c y) (λ n. cc) (count k) (count r.settings) v.waiting e))
         (All-append (Proper k) (copies m (count r.settings)) v.waiting (copies_proper k m (count r.settings) (omega (arith, e)) sort.0 (omega (arith, ltb-false 3 i sort.1)) few (mark_byte r.settings c)) h.proper)
 
-  pub wrote_reaches : (z : ℤ) → refusal r v.free (Write z) ≡ None → w.register ≡ accepted r (Write z) → IsPermutation w.waiting (put_out r (Write z) ++ v.waiting) → Reached k (entry (Write z) (Accepted 0) ms ∷ log) w
+  pub wrote_reaches : (z : ℤ) → Reaches k log v w ms (Write z)
   wrote_reaches z e reg s =
       let p = write_passed r v.free z e in
       let few : 0 ≤ k.readers = omega arith in
@@ -237,7 +246,7 @@ module _ (k : Checked) (log : List Entry) (v w : World) (b : model.State) (t : m
       (record { round = up; version = up; value = refl; previous = q.value; phase = ([], refl, no_receipts_lem (k.replicas - k.tolerated) (omega (arith, three_fit k))); left = omega (arith, p.2) })
       (lit≤ tt, refl, refl) (omega arith) reg s
 
-  pub asked_reaches : (c : ℕ) → refusal r v.free (Read c) ≡ None → w.register ≡ accepted r (Read c) → IsPermutation w.waiting (put_out r (Read c) ++ v.waiting) → Reached k (entry (Read c) (Accepted c) ms ∷ log) w
+  pub asked_reaches : (c : ℕ) → Reaches k log v w ms (Read c)
   asked_reaches zero e reg s = grind arith
   asked_reaches (suc c) e reg s =
       let p = read_passed r v.free (suc c) e in
@@ -248,7 +257,7 @@ module _ (k : Checked) (log : List Entry) (v w : World) (b : model.State) (t : m
       (record { round = up; version = q.version; value = q.value; previous = q.previous; phase = ([], refl, no_readings_lem (k.replicas - k.tolerated) (omega (arith, three_fit k))); left = omega (arith, p.3) })
       (lit≤ tt, refl, refl) (omega arith) reg s
 
-  pub told_reaches : (c : ℕ) → refusal r v.free (Tell c) ≡ None → w.register ≡ accepted r (Tell c) → IsPermutation w.waiting (put_out r (Tell c) ++ v.waiting) → Reached k (entry (Tell c) (Accepted c) ms ∷ log) w
+  pub told_reaches : (c : ℕ) → Reaches k log v w ms (Tell c)
   told_reaches zero e reg s = grind arith
   told_reaches (suc c) e reg s =
       let p = tell_passed r v.free (suc c) e in
@@ -260,91 +269,43 @@ module _ (k : Checked) (log : List Entry) (v w : World) (b : model.State) (t : m
       (record { round = up; version = q.version; value = q.value; previous = q.previous; phase = ([], refl, no_receipts_lem (2 * k.tolerated + 1) (omega arith)); left = omega (arith, due.1) })
       (lit≤ tt, refl, refl) (omega (arith, three_fit k)) reg s
 
--- ---- withdrawals
-
-count_below : (p : ℕ → Bool) (i n : ℕ) → n ≤ i → model.out_count (put p i true) n ≡ model.out_count p n
-count_below p i zero l = refl
-count_below p i (suc n) l =
-    let e : eqb n i ≡ false = ne_eqb n i (λ q. omega arith) in
-    let s : put p i true n ≡ p n = cond-false (eqb n i) true (p n) e in
-    let ih : model.out_count (put p i true) n ≡ model.out_count p n = count_below p i n (omega arith) in
-    let c : cond {A = ℕ} (put p i true n) 1 0 ≡ cond (p n) 1 0 = ap (λ q. cond {A = ℕ} q 1 0) s in
-    omega arith
-
-count_put : (p : ℕ → Bool) (i n : ℕ) → i < n → p i ≡ false → model.out_count (put p i true) n ≡ model.out_count p n + 1
-count_put p i zero l f = absurd (omega arith)
-count_put p i (suc n) l f =
-    elim (cases_eq n i) [
-      | inl q ↦
-          let s : put p i true n ≡ true = cond-true (eqb n i) true (p n) (eq-eqb n i q) in
-          let c : cond {A = ℕ} (put p i true n) 1 0 ≡ 1 = ap (λ a. cond {A = ℕ} a 1 0) s in
-          let d : cond {A = ℕ} (p n) 1 0 ≡ 0 = ap (λ a. cond {A = ℕ} a 1 0) (ap p q ∙ f) in
-          let g : model.out_count (put p i true) n ≡ model.out_count p n = count_below p i n (omega arith) in
-          omega arith
-      | inr q ↦
-          let s : put p i true n ≡ p n = cond-false (eqb n i) true (p n) (ne_eqb n i q) in
-          let c : cond {A = ℕ} (put p i true n) 1 0 ≡ cond (p n) 1 0 = ap (λ a. cond {A = ℕ} a 1 0) s in
-          let g : model.out_count (put p i true) n ≡ model.out_count p n + 1 = count_put p i n (omega (arith, q)) f in
-          omega arith
-    ]
-
-replica_passed : (r : Register) (i : ℕ) → refuse.replica_out_refusal r i ≡ None → (i < r.settings.replicas) × (get_or r.out i false ≡ false) × (r.outs < r.settings.tolerated)
-replica_passed r i e =
-    let e0 = not_refused _ _ _ e in
-    let e1 = not_refused _ _ _ e0.1 in
-    let e2 = not_refused _ _ _ e1.1 in
-    (leb-false _ _ e0.0, e1.0, leb-false _ _ e2.0)
-
-client_passed : (r : Register) (c : ℕ) → refuse.client_out_refusal r c ≡ None → c ≤ r.settings.readers
-client_passed r c e = ltb-false _ _ (not_refused _ _ _ e).0
-
-module _ (k : Checked) (log : List Entry) (v w : World) (b : model.State) (t : model.Trace (params_of k) k.initial log b) (h : Matches k v b) (ms : List Message) where
-  abbrev q : Register
-  q = v.register
-
-  pub replica_gone_reaches : (i : ℕ) → refusal q v.free (ReplicaOut i) ≡ None → w.register ≡ accepted q (ReplicaOut i) → IsPermutation w.waiting v.waiting → Reached k (entry (ReplicaOut i) (Accepted i) ms ∷ log) w
+  pub replica_gone_reaches : (i : ℕ) → Reaches k log v w ms (ReplicaOut i)
   replica_gone_reaches i e reg s =
-      let p = replica_passed q i e in
-      let same : q.settings ≡ k = h.register.settings in
-      let replicas : q.settings.replicas ≡ k.replicas = ap (λ a. a.replicas) same in
-      let tolerated : q.settings.tolerated ≡ k.tolerated = ap (λ a. a.tolerated) same in
-      let below : i < k.replicas = omega (arith, p.0) in
+      let p = replica_passed r i e in
+      let below : i < k.replicas = subst (λ a. i < a.replicas) same p.0 in
       let few : i < 32 = omega (arith, k.replicated.1) in
-      let o : OutsMatch k.replicas q.outs q.out b.replica_out = h.register.outs in
+      let o : OutsMatch k.replicas r.outs r.out b.replica_out = h.register.outs in
       let present : b.replica_out i ≡ false = sym (o.each i few) ∙ p.1 in
-      let count : q.outs ≡ model.out_count b.replica_out k.replicas = o.count in
-      let less : model.out_count b.replica_out k.replicas < k.tolerated = omega (arith, p.2) in
-      reached_with k (entry (ReplicaOut i) (Accepted i) ms ∷ log) w (accepted q (ReplicaOut i)) v.waiting _ (model.replica_gone i ms below present less t) reg
+      let less : model.out_count b.replica_out k.replicas < k.tolerated = subst (λ n. n < k.tolerated) o.count (subst (λ a. r.outs < a.tolerated) same p.2) in
+      reached_with k (entry (ReplicaOut i) (Accepted i) ms ∷ log) w (accepted r (ReplicaOut i)) v.waiting _ (model.replica_gone i ms below present less t) reg
       (record {
         settings = same;
         rows = h.register.rows;
         outs =
             record {
-              long = length-set q.out i true ∙ o.long;
-              each = each_set (λ x y. x ≡ y) 32 q.out i true false b.replica_out true (omega (arith, o.long)) refl o.each;
-              count = omega (arith, count_put b.replica_out i k.replicas below present);
+              long = length-set r.out i true ∙ o.long;
+              each = each_set (λ x y. x ≡ y) 32 r.out i true false b.replica_out true (omega (arith, o.long)) refl o.each;
+              count = omega (arith, o.count, count_put b.replica_out i k.replicas below present);
             };
         clients = h.register.clients;
       }) s (subst (λ y. Same y (map msg_of v.waiting)) h.waiting (same_self (map msg_of v.waiting))) h.proper
 
-  pub client_gone_reaches : (c : ℕ) → refusal q v.free (ClientOut c) ≡ None → w.register ≡ accepted q (ClientOut c) → IsPermutation w.waiting v.waiting → Reached k (entry (ClientOut c) (Accepted c) ms ∷ log) w
+  pub client_gone_reaches : (c : ℕ) → Reaches k log v w ms (ClientOut c)
   client_gone_reaches c e reg s =
-      let same : q.settings ≡ k = h.register.settings in
-      let readers : q.settings.readers ≡ k.readers = ap (λ a. a.readers) same in
-      let below : c < 65 = omega (arith, client_passed q c e, k.read.1) in
-      let cs : ClientsMatch k q.clients b.clients b.client_out = h.register.clients in
-      let x : ClientMatches k (client_at q c) (b.clients c) = cs.each c below in
-      let i : c < length q.clients = omega (arith, cs.long) in
-      reached_with k (entry (ClientOut c) (Accepted c) ms ∷ log) w (accepted q (ClientOut c)) v.waiting _ (model.client_gone c ms t) reg
+      let few : c ≤ k.readers = subst (λ a. c ≤ a.readers) same (client_passed r c e) in
+      let x : ClientMatches k (client_at r c) (b.clients c) = client c few in
+      let cs : ClientsMatch k r.clients b.clients b.client_out = h.register.clients in
+      let i : c < length r.clients = omega (arith, cs.long, low c few) in
+      reached_with k (entry (ClientOut c) (Accepted c) ms ∷ log) w (accepted r (ClientOut c)) v.waiting _ (model.client_gone c ms t) reg
       (record {
         settings = same;
         rows = h.register.rows;
         outs = h.register.outs;
         clients =
             record {
-              long = length-set q.clients c (gone (client_at q c)) ∙ cs.long;
-              out = each_set (λ z y. z.out ≡ y) 65 q.clients c (gone (client_at q c)) blank_client b.client_out true i refl cs.out;
-              each = each_set_beside (ClientMatches k) 65 q.clients c (gone (client_at q c)) blank_client b.clients i
+              long = length-set r.clients c (gone (client_at r c)) ∙ cs.long;
+              out = each_set (λ z y. z.out ≡ y) 65 r.clients c (gone (client_at r c)) blank_client b.client_out true i refl cs.out;
+              each = each_set_beside (ClientMatches k) 65 r.clients c (gone (client_at r c)) blank_client b.clients i
                   (record { round = x.round; version = x.version; value = x.value; previous = x.previous; phase = x.phase; left = x.left }) cs.each;
             };
       }) s (subst (λ y. Same y (map msg_of v.waiting)) h.waiting (same_self (map msg_of v.waiting))) h.proper
@@ -352,10 +313,8 @@ module _ (k : Checked) (log : List Entry) (v w : World) (b : model.State) (t : m
 -- ---- a call, accepted or sent back
 
 -- an accepted call reaches its world if the call's own lemma says so
-called_by : (k : Checked) (log : List Entry) (v w : World) (b : model.State) (o : Order) (a : Answer) (ms : List Message) (x : Option Refusal) → refusal v.register v.free o ≡ x
-    → model.Trace (params_of k) k.initial log b → Matches k v b → Called v o a w
-    → (refusal v.register v.free o ≡ None → w.register ≡ accepted v.register o → IsPermutation w.waiting (put_out v.register o ++ v.waiting) → Reached k (entry o (Accepted (named o)) ms ∷ log) w)
-    → Reached k (entry o a ms ∷ log) w
+called_by : (k : Checked) (log : List Entry) (v w : World) (b : model.State) (o : Order) (a : Answer) (ms : List Message) (x : Option Refusal)
+    → refusal v.register v.free o ≡ x → model.Trace (params_of k) k.initial log b → Matches k v b → Called v o a w → Reaches k log v w ms o → Reached k (entry o a ms ∷ log) w
 called_by k log v w b o a ms (Some x) e t h c f =
     let answer : a ≡ Refused x (named o) = c.answer ∙ ap (λ y. answer_by y (named o)) e in
     let register : w.register ≡ v.register = c.register ∙ ap (λ y. unless y (accepted v.register o) v.register) e in
@@ -370,7 +329,5 @@ called_by k log v w b o a ms None e t h c f =
     subst (λ y. Reached k (entry o y ms ∷ log) w) (sym answer) (f e register s)
 
 pub called_reaches : (k : Checked) (log : List Entry) (v w : World) (b : model.State) (o : Order) (a : Answer) (ms : List Message)
-    → model.Trace (params_of k) k.initial log b → Matches k v b → Called v o a w
-    → (refusal v.register v.free o ≡ None → w.register ≡ accepted v.register o → IsPermutation w.waiting (put_out v.register o ++ v.waiting) → Reached k (entry o (Accepted (named o)) ms ∷ log) w)
-    → Reached k (entry o a ms ∷ log) w
+    → model.Trace (params_of k) k.initial log b → Matches k v b → Called v o a w → Reaches k log v w ms o → Reached k (entry o a ms ∷ log) w
 called_reaches k log v w b o a ms t h c f = called_by k log v w b o a ms (refusal v.register v.free o) refl t h c f

@@ -26,13 +26,7 @@ each_set_two P n xs i a d f y g z l p h j k =
 
 pub each_set : {A B : Type 0} (P : A → B → Type 0) (n : ℕ) (xs : List A) (i : ℕ) (a d : A) (f : ℕ → B) (y : B) → i < length xs → P a y
     → ((j : ℕ) → j < n → P (get_or xs j d) (f j)) → (j : ℕ) → j < n → P (get_or (set xs i a) j d) (put f i y j)
-each_set P n xs i a d f y l p h j k =
-    elim (cases_Bool (eqb j i)) [
-      | inl e ↦
-          let t : j ≡ i = eqb-true j i e in
-          simp e (simp t (simp (get_or-set_same xs i a d l) p))
-      | inr e ↦ simp e (simp (get_or-set_other xs i j a d (eqb-false j i e)) (h j k))
-    ]
+each_set P n xs i a d f y = each_set_two (λ x b (_ : Unit {0}). P x b) n xs i a d f y (λ _. tt) tt
 
 -- the same where the function stays: the new entry fits the one of the function at its place
 pub each_set_beside : {A B : Type 0} (P : A → B → Type 0) (n : ℕ) (xs : List A) (i : ℕ) (a d : A) (f : ℕ → B) → i < length xs → P a (f i)
