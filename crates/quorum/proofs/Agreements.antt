@@ -6,7 +6,8 @@ use lib.Count.{ones}
 use Rattle.std.proofs.lemmas.Bool.Decides.{nat_tests}
 use Rattle.std.proofs.lemmas.Bool.{and_parts, and_from, leb-true, le-leb, eqb-true, eq-eqb}
 use Rattle.std.proofs.lemmas.List.Sums.{length-filter}
-use Rattle.std.proofs.ByRecursion.{kept_by_passes, All-weaker}
+use Rattle.std.specs.List.{All}
+use Rattle.std.proofs.lemmas.List.Elements.{filter_passes, All-weaker, recursion_from_All}
 use Rattle.std.specs.List.{AllByRecursion}
 use Rattle.quorum.specs.declared.slip.Reading.{Reading}
 use Rattle.quorum.specs.Agree.{all_have, common_marks, all_at, agree, agreed, some_set}
@@ -71,13 +72,13 @@ set_from_mask xs h need least g =
     let m : ℕ = g.mask in
     let p : Reading → Bool = covers h m in
     let e : chosen (map p xs) xs ≡ filter p xs = chosen_map p xs in
-    let passes : AllByRecursion (λ y. p y ≡ true) (filter p xs) = kept_by_passes p xs in
-    let marks : AllByRecursion (λ y. bit_and y.marks m ≡ m) (filter p xs) =
-    All-weaker (λ y. p y ≡ true) (λ y. bit_and y.marks m ≡ m) (λ y t. grind (arith, nat_tests)) (filter p xs) passes in
+    let kept : (Q : Reading → Type 0) → ((y : Reading) → p y ≡ true → Q y) → AllByRecursion Q (filter p xs) =
+    λ Q f. recursion_from_All Q (filter p xs) (All-weaker (λ y. p y ≡ true) Q f (filter p xs) (filter_passes p xs)) in
+    let marks = kept (λ y. bit_and y.marks m ≡ m) (λ y t. grind (arith, nat_tests)) in
     let P : List Reading → Type 0 = λ ys. (need ≤ length ys) × AllByRecursion (λ y. y.version ≡ h) ys × (least ≤ common_marks ys) in
     let made : P (filter p xs) = (
       omega (arith, g.many, length-filter p xs),
-      All-weaker (λ y. p y ≡ true) (λ y. y.version ≡ h) (λ y t. grind (arith, nat_tests)) (filter p xs) passes,
+      kept (λ y. y.version ≡ h) (λ y t. grind (arith, nat_tests)),
       omega (arith, g.marks, ones_in_lem 8 m g.small, common_is_sum (filter p xs), ones_le_sum 8 m (flag (filter p xs)) (λ i _. digit_le_flag m i (filter p xs) marks)),
     )
     in

@@ -4,7 +4,6 @@ use lib.Signed.{mag}
 use Rattle.std.specs.Fmt.{signed_decimal}
 use Rattle.std.specs.List.{AllByRecursion}
 use Rattle.std.proofs.lemmas.Fmt.{decimal_injective, signed_decimal_injective}
-use Rattle.std.proofs.ByRecursion.{All-weaker}
 use Rattle.orders.specs.declared.order.Order.{Order}
 use Rattle.orders.specs.declared.order.Order.TheVariants.{Write, Read, Tell, Carry, ReplicaOut, ClientOut}
 use Rattle.settings.specs.declared.given.Settings.{Settings}
@@ -20,7 +19,8 @@ use Rattle.sheet.proofs.Refuted.{Matches}
 use Rattle.sheet.proofs.Walks.{bytes_append}
 
 pub all_good : (ps : List Placed) → AllByRecursion Admitted ps → AllByRecursion Good ps
-all_good ps h = All-weaker Admitted Good (λ p a. a.good) ps h
+all_good [] h = tt
+all_good (p ∷ ps) h = (h.0.good, all_good ps h.1)
 
 small_mag : (z : ℤ) → SmallValue z → mag z < 2 ^ 63
 small_mag (pos n) h = omega arith

@@ -2,7 +2,7 @@
 use Rattle.std.proofs.Common.{◌≡◌, ℕ, ◌+◌, ◌<◌, ◌≤◌, List, [], ◌∷◌, ◌++◌, length, take, drop, set, sym, refl, ap, ◌∙◌, subst, arith}
 use Rattle.std.specs.List.{AllByRecursion}
 use Rattle.std.proofs.lemmas.List.{take_more_set, flat_map_more, drop-set-lt, drop-drop, take-append-le, drop-append-le, take-append-drop, length-take-le}
-use Rattle.std.proofs.ByRecursion.{All-push}
+use Rattle.std.proofs.lemmas.List.Elements.{All-from_recursion, All-push, recursion_from_All}
 use Rattle.orders.specs.declared.order.Order.{Order}
 use Rattle.orders.specs.declared.order.Order.TheVariants.{Write, Read, Tell, Carry, ReplicaOut, ClientOut}
 use Rattle.sheet.specs.Fault.{Shown}
@@ -28,7 +28,7 @@ filled_more i rest line before orders a b k l o h g fine t =
     let E : List Order → Type 0 = λ os. AllByRecursion FineOrder os in
     let P : List Placed → Type 0 = λ ps. Took ps rest line b l in
     record {
-      each = subst E (sym e) (All-push FineOrder (take i orders) o g.each fine);
+      each = subst E (sym e) (recursion_from_All FineOrder _ (All-push FineOrder _ o (All-from_recursion FineOrder _ g.each) fine));
       took = subst P (sym (ap lines_of e ∙ lines_push (take i orders) o)) (both g.took t);
       lines = omega (arith, g.lines, t.lines, order_line o);
       kept = drop-set-lt (i + 1) orders i o (omega arith) ∙ sym (drop-drop 1 i orders) ∙ ap (drop 1) g.kept ∙ drop-drop 1 i before;
