@@ -11,7 +11,7 @@ use Rattle.channels.specs.declared.delay.Delay.{Delay}
 abbrev pub is_later : ℕ → ℕ → Message → Bool
 is_later replica n m = is_request m.kind && (m.replica == replica && nat_lt n 64)
 
--- where a message goes: below if one of the room places there is free, else to the end of the pocket, if that is not full
+-- where a message goes: below if one of the room places there is free, else to the end of the pocket, if it is not full
 abbrev pub Entered : {U F : Type 0} → ℕ → List Message → List Message → Message
     → List Message → List Message → Result U F → Type 0
 Entered room below pocket m below' pocket' (Ok _) =
@@ -20,8 +20,8 @@ Entered room below pocket m below' pocket' (Ok _) =
 Entered room below pocket m below' pocket' (Err _) =
     (room ≡ 0) × (length pocket ≡ 64) × IsPermutation below' below × (pocket' ≡ pocket)
 
--- What waits below and in the pocket, before and after, and what is given: a message from below that is not kept back; or,
--- that being kept, what comes next; or, with nothing below, the pocket's oldest.
+-- What waits below and in the pocket, before and after, and what is given: a message from below that is not kept back;
+-- or, that being kept, what comes next; or, with nothing below, the pocket's oldest.
 pub data Handed (replica : ℕ)
     : List Message → List Message → List Message → List Message → Option Message → Type 0 where
   given : (below below' pocket : List Message) (m : Message)

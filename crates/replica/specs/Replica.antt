@@ -29,8 +29,8 @@ is_stale r m = nat_le m.round (slice_index r.rounds m.client)
 abbrev pub is_news : Row → Message → Bool
 is_news r m = nat_lt r.version m.version
 
--- A fresh message: its round is recorded; a higher version is taken with both values and the message's marks alone, else
--- the marks are added; a tell raises the note to its version.
+-- A fresh message: its round is recorded; a higher version is taken with both values and the message's marks alone,
+-- else the marks are added; a tell raises the note to its version.
 abbrev pub fresh : Row → Message → Row
 fresh r m =
     record {

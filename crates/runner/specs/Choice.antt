@@ -1,5 +1,7 @@
 -- How many messages wait at most in a channel of each form.
-use Rattle.std.specs.Prelude.{ℕ, ◌+◌}
+use Rattle.std.specs.Prelude.{ℕ, ◌+◌, List, length}
+use Rattle.wire.specs.declared.message.Message.{Message}
+use Rattle.wire.specs.Channel.{Contents, empty}
 use Rattle.runner.specs.declared.choice.Choice.{Choice}
 use Rattle.runner.specs.declared.choice.Choice.TheVariants.{Queue, Slots, DelayQueue, DelaySlots, DelayTwice}
 
@@ -10,3 +12,7 @@ room_of Slots cells = 256
 room_of (DelayQueue n) cells = cells + 64
 room_of (DelaySlots n) cells = 256 + 64
 room_of (DelayTwice n m) cells = (cells + 64) + 64
+
+-- what a new channel of each form means, a queue in the cells
+abbrev pub new_channel : Choice → List Message → Contents
+new_channel choice cells = empty (room_of choice (length cells))

@@ -1,9 +1,7 @@
 //! The forms of channel that a rehearsal offers.
-ghost use Rattle.std.specs.Prelude.{length};
-ghost use Rattle.wire.specs.Channel.{empty};
-ghost use Rattle.runner.specs.Memory.{SameLenders, content};
-ghost use Rattle.runner.specs.Rehearse.{Rehearsed};
-ghost use Rattle.runner.specs.Choice.{room_of};
+ghost use Rattle.runner.specs.Memory.{SameLenders};
+ghost use Rattle.runner.specs.Rehearse.{RehearsedIn};
+ghost use Rattle.runner.specs.Choice.{new_channel};
 
 use crate::drill::drill;
 use crate::fault::DrillFault;
@@ -33,7 +31,7 @@ pub fn rehearse_by<'a>(
     sheet: &'a [u8],
     memory: &mut Memory,
 ) -> Result<usize, DrillFault<'a>>
-    ensures rehearsed { Rehearsed sheet.now (empty (room_of choice (length cells.old))) (content memory.old) (content memory.new) result }
+    ensures rehearsed { RehearsedIn sheet.now (new_channel choice cells.old) memory.old memory.new result }
     ensures lent { SameLenders memory.old memory.new }
 {
     match choice {
