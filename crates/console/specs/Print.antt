@@ -1,6 +1,7 @@
 -- What a program prints of a sheet.
 use Rattle.std.specs.Prelude.{◌≡◌, ℕ, List, [], ◌∷◌, ◌++◌, length, take, Option, IfSome, Result, Ok, Err}
 use Rattle.std.specs.Io.KnownBytes.{Appends}
+use Rattle.std.specs.Option.{option_map}
 use Rattle.runner.specs.declared.choice.Choice.{Choice}
 use Rattle.runner.specs.declared.fault.DrillFault.{DrillFault}
 use Rattle.runner.specs.Fault.{fault_text}
@@ -30,6 +31,10 @@ pub record Told (choice : Choice) (sheet bytes : List ℕ) : Type 0 where
 abbrev pub Prints : Choice → List ℕ → Option (List ℕ) → Option (List ℕ) → Type 0
 Prints choice sheet old new = (bytes : List ℕ) × Told choice sheet bytes × Appends old new bytes
 
+-- the first bytes of an input, as many as a program takes for its sheet
+unfoldable pub first_bytes : Option (List ℕ) → Option (List ℕ)
+first_bytes input = option_map (take sheet_bytes) input
+
 -- the same for the first bytes of an input, if it is known
 abbrev pub PrintsInput : Choice → Option (List ℕ) → Option (List ℕ) → Option (List ℕ) → Type 0
-PrintsInput choice input old new = IfSome input (λ given. Prints choice (take sheet_bytes given) old new)
+PrintsInput choice input old new = IfSome (first_bytes input) (λ sheet. Prints choice sheet old new)

@@ -1,7 +1,7 @@
 //! A whole program: a sheet in, what comes of it out.
 ghost use Rattle.std.specs.Prelude.{◌≡◌, take, IfOk, IfSome, OnOk};
 ghost use Rattle.console.specs.Print.{PrintsInput};
-ghost use Rattle.console.specs.Sizes.{sheet_bytes};
+ghost use Rattle.console.specs.Print.{first_bytes};
 
 use crate::print::print;
 use crate::sizes::SHEET_BYTES;
@@ -10,8 +10,9 @@ use std::alloc::Global;
 use std::io::{self, Read, Write};
 
 // The first bytes of the input, as many as a sheet may have.
+#[tactic(auto, unfolding(crate::specs::Print::first_bytes))]
 fn read_sheet<R: Read + Drop>(alloc: Global, input: R) -> io::Result<Vec<u8>>
-    ensures { IfOk result (λ sheet. IfSome (R.remaining input) (λ given. sheet.items ≡ take sheet_bytes given)) }
+    ensures { IfOk result (λ sheet. IfSome (first_bytes (R.remaining input)) (λ xs. sheet.items ≡ xs)) }
 {
     let mut sheet = Vec::new(alloc);
     input.take(SHEET_BYTES).read_to_end(&mut sheet)?;

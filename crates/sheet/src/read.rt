@@ -1,4 +1,5 @@
 //! The sheet reader: settings are handed over, and orders are filled into the places handed in.
+ghost use Rattle.std.specs.Prelude.{◌≡◌};
 ghost use Rattle.sheet.specs.Read.{Outcome, ReadsExactly, RefusesExactly};
 
 use crate::cursor::Cursor;
@@ -23,8 +24,21 @@ pub fn read<'a>(sheet: &'a [u8], orders: &mut [Order]) -> Result<Reading, SheetF
         rest: sheet,
         line: 1,
     };
-    let reading = cursor.head(orders.len())?;
-    cursor.fill(orders, reading.count)?;
-    cursor.finish()?;
-    Ok(reading)
+    cursor.whole(orders)
+}
+
+impl<'a> Cursor<'a> {
+    // From the first line to the end.
+    #[inline(always)]
+    fn whole(&mut self, orders: &mut [Order]) -> Result<Reading, SheetFault<'a>>
+        requires first { self.old.line ≡ 1 }
+        ensures outcome { Outcome self.old.rest.now orders.old orders.new result }
+        ensures exact { ReadsExactly self.old.rest.now orders.old orders.new result }
+        ensures only { RefusesExactly self.old.rest.now orders.old orders.new result }
+    {
+        let reading = self.head(orders.len())?;
+        self.fill(orders, reading.count)?;
+        self.finish()?;
+        Ok(reading)
+    }
 }
