@@ -4,3 +4,7 @@
 pub mod delay;
 pub mod queue;
 pub mod slots;
+
+pub use crate::delay::Delay;
+pub use crate::queue::Queue;
+pub use crate::slots::Slots;

@@ -90,11 +90,7 @@ impl Channel for Slots {
     }
 
     /// It gives the lowest: none that waited is before it.
-    #[tactic(auto, using(
-        crate::proofs::Slotted::none_held,
-        crate::proofs::Slotted::freed_holds,
-        crate::proofs::Slotted::freed_leaves
-    ))]
+    #[tactic(auto, using(crate::proofs::Slotted::none_held, crate::proofs::Slotted::freed_holds, crate::proofs::Slotted::freed_leaves))]
     fn take(&mut self) -> Option<Message>
         ensures meets { Taken (contents_of self.old) (contents_of self.new) result }
         ensures lowest { GivesLowest self.old result }

@@ -2,5 +2,8 @@
 #![tactic(auto)]
 
 pub mod client;
-pub mod hear;
+mod hear;
 pub mod start;
+
+pub use crate::client::{Client, Phase};
+pub use crate::start::Round;

@@ -3,3 +3,6 @@
 
 pub mod answer;
 pub mod order;
+
+pub use crate::answer::{Answer, Refusal};
+pub use crate::order::Order;

@@ -1,14 +1,17 @@
 //! The replicated register: opening it, its six calls, and lists of them.
 #![tactic(auto)]
 
-pub(crate) mod begin;
-pub mod calls;
-pub mod carry;
+mod begin;
+mod calls;
+mod carry;
 pub mod fault;
-pub mod handle;
-pub mod open;
-pub(crate) mod refuse;
+mod handle;
+mod open;
+mod refuse;
 pub mod register;
-pub mod run;
-pub(crate) mod send;
-pub mod settle;
+mod run;
+mod send;
+mod settle;
+
+pub use crate::fault::{ChannelFault, RegisterFault};
+pub use crate::register::Register;

@@ -3,3 +3,6 @@
 
 pub mod replica;
 pub mod row;
+
+pub use crate::replica::Replica;
+pub use crate::row::Row;

@@ -3,12 +3,10 @@ ghost use Rattle.std.specs.Prelude.{IfOk, IfErr};
 ghost use Rattle.session.specs.Perform.{Done, NotDone};
 ghost use Rattle.theory.specs.Stand.{Laws};
 
-use orders::answer::Answer;
-use orders::order::Order;
-use register::fault::RegisterFault;
-use register::register::Register;
-use settings::given::Settings;
-use wire::channel::Channel;
+use orders::{Answer, Order};
+use register::{Register, RegisterFault};
+use settings::Settings;
+use wire::Channel;
 
 /// Opens a register over any channel and does the orders: they are a past from the opening, this past keeps the laws,
 /// and so does every other. A fault leaves channel and answers as they were: the settings or the channel do not open,

@@ -6,3 +6,7 @@ pub mod fault;
 pub mod given;
 pub mod limits;
 pub mod range;
+
+pub use crate::checked::Checked;
+pub use crate::fault::SettingsFault;
+pub use crate::given::Settings;

@@ -4,3 +4,7 @@
 pub mod channel;
 pub mod kind;
 pub mod message;
+
+pub use crate::channel::{Channel, Full};
+pub use crate::kind::Kind;
+pub use crate::message::Message;
