@@ -30,30 +30,30 @@ digits_plain : (w : List ℕ) → all_digits w ≡ true → Plain w
 digits_plain [] h = tt
 digits_plain (b ∷ bs) h = let p = and_parts (is_digit b) (all_digits bs) h in (digit_plain b p.0, digits_plain bs p.1)
 
-decimal_digits : (n : ℕ) → n ≤ 99999999 → all_digits (decimal n) ≡ true
+decimal_digits : (n : ℕ) → n ≤ number_max → all_digits (decimal n) ≡ true
 decimal_digits n h = digits_decimal own n (omega arith)
 
-decimal_amount : (n : ℕ) → n ≤ 99999999 → amount (decimal n) ≡ n
+decimal_amount : (n : ℕ) → n ≤ number_max → amount (decimal n) ≡ n
 decimal_amount n h = digits_value-decimal own n (omega arith)
 
 -- only 0 begins with the digit 0
-decimal_lead : (n : ℕ) → n ≤ 99999999 → (ltb 1 (length (decimal n)) && eqb (get_or (decimal n) 0 0) 48) ≡ false
+decimal_lead : (n : ℕ) → n ≤ number_max → (ltb 1 (length (decimal n)) && eqb (get_or (decimal n) 0 0) 48) ≡ false
 decimal_lead n h =
     elim (cases_eq n 0) [
       | inl z ↦ ap (λ k. ltb 1 (length (decimal k)) && eqb (get_or (decimal k) 0 0) 48) z ∙ ap (λ w. ltb 1 (length w) && eqb (get_or w 0 0) 48) (decimal_digit 0 (lit< tt))
       | inr ne ↦ let f : 48 < get_or (decimal n) 0 0 = first_decimal n (omega arith) (omega arith) in grind (arith, nat_tests)
     ]
 
-pub decimal_numeral : (n : ℕ) → n ≤ 99999999 → numeral (decimal n) ≡ true
+pub decimal_numeral : (n : ℕ) → n ≤ number_max → numeral (decimal n) ≡ true
 decimal_numeral n h =
     let some : 0 < length (decimal n) = decimal_nonempty n (omega arith) in
     cond-false (eqb (length (decimal n)) 0) false (cond (ltb 1 (length (decimal n)) && eqb (get_or (decimal n) 0 0) 48) false (all_digits (decimal n))) (ne_eqb (length (decimal n)) 0 (λ z. omega arith))
     ∙ cond-false (ltb 1 (length (decimal n)) && eqb (get_or (decimal n) 0 0) 48) false (all_digits (decimal n)) (decimal_lead n h) ∙ decimal_digits n h
 
-within : (limit n : ℕ) → n ≤ limit → n ≤ 99999999 → ltb limit (amount (decimal n)) ≡ false
+within : (limit n : ℕ) → n ≤ limit → n ≤ number_max → ltb limit (amount (decimal n)) ≡ false
 within limit n h l = le-ltb limit (amount (decimal n)) (omega (arith, decimal_amount n l))
 
-pub number_admitted : (limit n separator : ℕ) → n ≤ limit → limit ≤ 99999999 → in_word separator ≡ false → Admitted (placed (number limit) (decimal n) separator)
+pub number_admitted : (limit n separator : ℕ) → n ≤ limit → limit ≤ number_max → in_word separator ≡ false → Admitted (placed (number limit) (decimal n) separator)
 number_admitted limit n separator h l s =
     record {
       good = record { plain = digits_plain (decimal n) (decimal_digits n (omega arith)); stops = s };
@@ -62,7 +62,7 @@ number_admitted limit n separator h l s =
     }
 
 -- digits have no minus sign
-decimal_unsigned : (n : ℕ) → n ≤ 99999999 → negated (decimal n) ≡ false
+decimal_unsigned : (n : ℕ) → n ≤ number_max → negated (decimal n) ≡ false
 decimal_unsigned n h =
     let d : 48 ≤ get_or (decimal n) 0 0 = elim (cases_eq n 0) [
       | inl z ↦ omega (arith, ap (λ k. get_or (decimal k) 0 0) z ∙ ap (λ w. get_or w 0 0) (decimal_digit 0 (lit< tt)))
@@ -70,7 +70,7 @@ decimal_unsigned n h =
     ] in
     cond-false (eqb (get_or (decimal n) 0 0) 45 && not (eqb (get_or (decimal n) 1 0) 48)) (numeral (drop 1 (decimal n))) false (and_left (eqb (get_or (decimal n) 0 0) 45) (not (eqb (get_or (decimal n) 1 0) 48)) (ne_eqb (get_or (decimal n) 0 0) 45 (λ z. omega arith)))
 
-minus_negated : (n : ℕ) → n < 99999999 → negated (45 ∷ decimal (suc n)) ≡ true
+minus_negated : (n : ℕ) → n < number_max → negated (45 ∷ decimal (suc n)) ≡ true
 minus_negated n h =
     let f : 48 < get_or (decimal (suc n)) 0 0 = first_decimal (suc n) (omega arith) (omega arith) in
     cond-true (not (eqb (get_or (decimal (suc n)) 0 0) 48)) (numeral (decimal (suc n))) false (ap not (ne_eqb (get_or (decimal (suc n)) 0 0) 48 (λ z. omega arith))) ∙ decimal_numeral (suc n) (omega arith)

@@ -38,7 +38,7 @@ pub head_peel : (s t : Settings) (m n : ℕ) (x y : List ℕ) → SmallSettings 
 head_peel s t m n x y g h fm fn e =
     let r = peel (head_words s m) (head_words t n) x y (all_good (head_words s m) (head_admitted s m g fm)) (all_good (head_words t n) (head_admitted t n h fn)) refl e in
     let at : (i : ℕ) → get_or (words_in (head_words s m)) i [] ≡ get_or (words_in (head_words t n)) i [] = λ i. ap (λ ws. get_or ws i []) r.words in
-    let same : (a b : ℕ) → a ≤ 99999999 → b ≤ 99999999 → decimal a ≡ decimal b → a ≡ b = λ a b p q. decimal_injective a b (omega arith) (omega arith) in
+    let same : (a b : ℕ) → a ≤ number_max → b ≤ number_max → decimal a ≡ decimal b → a ≡ b = λ a b p q. decimal_injective a b (omega arith) (omega arith) in
     record {
       settings = settings_same s t (same s.replicas t.replicas g.replicas h.replicas (at 2)) (same s.tolerated t.tolerated g.tolerated h.tolerated (at 3))
           (same s.groups t.groups g.groups h.groups (at 4)) (same s.readers t.readers g.readers h.readers (at 5))

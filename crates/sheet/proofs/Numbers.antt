@@ -7,6 +7,7 @@ use Rattle.std.proofs.lemmas.Str.{IsUtf8-from_ascii}
 use Rattle.std.proofs.lemmas.Str.Parse.{IsNumeralModel, numerals_by_fold}
 use Rattle.std.proofs.lemmas.Bool.{cases_eq, false≢true}
 use Rattle.std.proofs.lemmas.Int.{ints, to_z_pos}
+use Rattle.settings.specs.Limits.{number_max}
 use Rattle.sheet.specs.Form.{number}
 use Rattle.sheet.specs.FirstFault.{above}
 use Rattle.sheet.specs.Steps.{Counts, Values}
@@ -62,14 +63,14 @@ negated_parts [] h = absurd (false≢true h)
 negated_parts (b ∷ bs) h = (ap (λ x. x ∷ bs) (grind (arith, nat_tests)), λ z. grind (arith, nat_tests), grind (arith, nat_tests))
 
 -- 0 has no minus sign
-pub negated_positive : (w : List ℕ) → negated w ≡ true → amount (drop 1 w) ≤ 99999999 → 0 < amount (drop 1 w)
+pub negated_positive : (w : List ℕ) → negated w ≡ true → amount (drop 1 w) ≤ number_max → 0 < amount (drop 1 w)
 negated_positive w h small =
     let p = negated_parts w h in
     let same : drop 1 w ≡ decimal (amount (drop 1 w)) = numeral_decimal (drop 1 w) p.2 (omega arith) in
     elim (cases_eq (amount (drop 1 w)) 0) [ inl z ↦ absurd (p.1 (ap (λ v. get_or v 0 0) (same ∙ ap decimal z ∙ decimal_digit 0 (lit< tt)))) | inr ne ↦ omega arith ]
 
 -- the value of a judged word, as the code makes it of the amount
-pub values_negative : (v w : List ℕ) (n : ℕ) → negative v ≡ sorted w → (n ≡ amount v) × (n ≤ 99999999) → Values w (to_z w32 (of_z w32 (pos 0 -ℤ to_z w32 n)))
+pub values_negative : (v w : List ℕ) (n : ℕ) → negative v ≡ sorted w → (n ≡ amount v) × (n ≤ number_max) → Values w (to_z w32 (of_z w32 (pos 0 -ℤ to_z w32 n)))
 values_negative v w n h e =
     let p = negative_sorted v w h in
     let a : amount (drop 1 w) ≡ n = ap amount (sym p.1) ∙ sym e.0 in
@@ -80,8 +81,8 @@ values_negative v w n h e =
     let P : ℤ → Type 0 = λ y. Values w y in
     subst P (sym z) (record { small = omega (arith, e.1); same = q.0 ∙ ap (λ ds. 45 ∷ ds) (numeral_decimal (drop 1 w) q.2 (omega (arith, e.1)) ∙ ap decimal (a ∙ sym back)) })
 
-pub values_positive : (v w : List ℕ) (n : ℕ) → digits v ≡ sorted w → (n ≡ amount v) × (n ≤ 99999999) → Values w (to_z w32 n)
+pub values_positive : (v w : List ℕ) (n : ℕ) → digits v ≡ sorted w → (n ≡ amount v) × (n ≤ number_max) → Values w (to_z w32 n)
 values_positive v w n h e =
-    let c = counts v w 99999999 n (omega arith) h e.0 e.1 in
+    let c = counts v w number_max n (omega arith) h e.0 e.1 in
     let P : ℤ → Type 0 = λ z. Values w z in
     subst P (sym (to_z_pos w32 n (omega (arith, e.1)))) (record { small = e.1; same = c.same })
