@@ -2,10 +2,7 @@
 use Rattle.std.proofs.Common.{◌≡◌, ℕ, suc, ◌<◌, ◌⊎◌, List, [], ◌∷◌, length, ℤ}
 use Rattle.std.specs.List.{Contains, AllByRecursion}
 use Rattle.theory.proofs.Cards.{Params, Fit}
-use Rattle.orders.specs.declared.order.Order.{Order}
-use Rattle.orders.specs.declared.order.Order.TheVariants.{Write, Read, Tell, ClientOut}
-use Rattle.orders.specs.Answer.{listed_as}
-use Rattle.laws.specs.Entries.{Entry}
+use Rattle.theory.proofs.Words.{Order, Write, Read, Tell, ClientOut, listed_as, Entry}
 use Rattle.theory.proofs.Model.{State, Trace}
 use Rattle.theory.proofs.History.{Done, values, done}
 

@@ -2,7 +2,7 @@
 use Rattle.std.proofs.Common.{◌≡◌, ℕ, ◌<◌, false, ◌⊎◌, List, [], ℤ}
 use Rattle.std.specs.List.{AllByRecursion}
 use Rattle.theory.proofs.Cards.{Params, Fit}
-use Rattle.laws.specs.Entries.{Entry}
+use Rattle.theory.proofs.Words.{Entry}
 use Rattle.theory.proofs.Model.{State, Trace, idle, due}
 use Rattle.theory.proofs.History.{Done, done}
 

@@ -2,12 +2,7 @@
 use Rattle.std.proofs.Common.{◌≡◌, ℕ, suc, true, false, eqb, ◌⊎◌, List, [], ◌∷◌, length, ℤ, sym, refl, ap, ◌∙◌, subst, inl, inr, arith}
 use Rattle.std.proofs.lemmas.Bool.{cases_Bool, cases_eq, eqb-false, false≢true}
 use Rattle.std.specs.List.{AllByRecursion}
-use Rattle.wire.specs.declared.message.Message.{Message}
-use Rattle.orders.specs.Answer.{listed_as}
-use Rattle.orders.specs.declared.answer.Answer.TheVariants.{Accepted, Counted, BecameDue}
-use Rattle.orders.specs.declared.order.Order.{Order}
-use Rattle.orders.specs.declared.order.Order.TheVariants.{Write, Read, Tell, Carry, ClientOut}
-use Rattle.laws.specs.Entries.{Entry}
+use Rattle.theory.proofs.Words.{Message, listed_as, Accepted, Counted, BecameDue, Order, Write, Read, Tell, Carry, ClientOut, Entry}
 use Rattle.theory.proofs.Cards.{Params, Slip}
 use Rattle.theory.proofs.Model.{put, Kind, writes, reads, Phase, idle, due, awaiting, Client, State, entry, ended, Trace, opening, stirred, refused, wrote, asked, told, delivered, lost, counted, finished, decided, became, replica_gone, client_gone}
 use Rattle.theory.proofs.History.{begun, done}

@@ -3,11 +3,7 @@ use Rattle.std.proofs.Common.{◌≡◌, ℕ, ◌≤◌, Bool, true, false, ◌�
 use Rattle.std.specs.List.{Contains, AllByRecursion}
 use Rattle.std.proofs.lemmas.Option.{none-some, same_Some}
 use Rattle.std.proofs.lemmas.Bool.{cases_Bool, cases_eq}
-use Rattle.orders.specs.declared.order.Order.{Order}
-use Rattle.orders.specs.declared.order.Order.TheVariants.{Write, Read}
-use Rattle.laws.specs.Entries.{Entry}
-use Rattle.laws.specs.Operations.{Operation, EndsAt, Ending, IsWrite, IsRead, Shown, Belongs}
-use Rattle.laws.specs.Laws.{Before, InOrder, NoTwice, ShowsNearest, OneLine}
+use Rattle.theory.proofs.Words.{Order, Write, Read, Entry, Operation, EndsAt, Ending, IsWrite, IsRead, Shown, Belongs, Before, InOrder, NoTwice, ShowsNearest, OneLine}
 use Rattle.theory.proofs.Lists.{All-weaker, All-contains, All-map, all_from_map, All-contains_itself, has_here, has_there}
 use Rattle.theory.proofs.Sets.{Lacks, Distinct}
 use Rattle.theory.proofs.History.{Done, values, value_at, begun, done}

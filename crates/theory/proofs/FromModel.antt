@@ -1,10 +1,7 @@
 -- Every past keeps the laws, since it is a trace of the model and the model keeps its laws. It ends in lawful.
 use Rattle.std.proofs.Common.{◌≡◌, ◌+◌, ◌*◌, ◌≤◌, List, [], map, reverse, sym, ap, ◌∙◌, subst, inl, inr, mul-le-mul_right, arith}
 use Rattle.std.specs.List.{AllByRecursion}
-use Rattle.settings.specs.declared.checked.Checked.{Checked}
-use Rattle.register.specs.World.{World}
-use Rattle.laws.specs.Entries.{Entry}
-use Rattle.laws.specs.Laws.{AllEnded, Lawful}
+use Rattle.theory.proofs.Words.{Checked, World, Entry, AllEnded, Lawful}
 use Rattle.theory.specs.Stand.{Laws}
 use Rattle.theory.proofs.Lists.{All-weaker}
 use Rattle.theory.proofs.Cards.{Fit}

@@ -2,11 +2,7 @@
 use Rattle.std.proofs.Common.{◌≡◌, ℕ, zero, suc, ◌+◌, ◌*◌, ◌<◌, ◌≤◌, ◌⊎◌, List, sym, ◌∙◌, subst, inl, inr, arith}
 use Rattle.std.specs.List.{Contains, AllByRecursion}
 use Rattle.std.proofs.lemmas.Option.{same_Some}
-use Rattle.orders.specs.Answer.{listed_as}
-use Rattle.settings.specs.declared.checked.Checked.{Checked}
-use Rattle.laws.specs.Entries.{Entry}
-use Rattle.laws.specs.Operations.{Begins, EndsAt}
-use Rattle.laws.specs.Laws.{rounds_of, messages_of, FewRounds}
+use Rattle.theory.proofs.Words.{listed_as, Checked, Entry, Begins, EndsAt, rounds_of, messages_of, FewRounds}
 use Rattle.theory.proofs.Lists.{All-contains}
 use Rattle.theory.proofs.History.{Done, done}
 use Rattle.theory.proofs.Claims as model

@@ -1,9 +1,6 @@
 -- What a log of entries says, the newest first: the values written, where calls began, and the calls that ended.
 use Rattle.std.proofs.Common.{◌≡◌, ℕ, suc, ◌<◌, ◌≤◌, cond, eqb, List, [], ◌∷◌, length, ℤ}
-use Rattle.orders.specs.declared.order.Order.{Order}
-use Rattle.orders.specs.declared.order.Order.TheVariants.{Write, Read, Tell}
-use Rattle.orders.specs.Answer.{listed_as}
-use Rattle.laws.specs.Entries.{Entry}
+use Rattle.theory.proofs.Words.{Order, Write, Read, Tell, listed_as, Entry}
 use Rattle.theory.proofs.Model.{put}
 
 -- an ended write or read; its client is 0 for a write

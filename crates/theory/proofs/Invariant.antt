@@ -2,11 +2,7 @@
 use Rattle.std.proofs.Common.{◌≡◌, ℕ, suc, ◌+◌, ◌*◌, ◌<◌, ◌≤◌, true, false, eqb, ◌⊎◌, List, [], ◌∷◌, length, ℤ, sym, refl, ap, ◌∙◌, subst, inl, inr, arith, pow_pos}
 use Rattle.std.proofs.lemmas.Bool.{cases_lt}
 use Rattle.std.specs.List.{AllByRecursion}
-use Rattle.wire.specs.declared.message.Message.{Message}
-use Rattle.orders.specs.Answer.{listed_as}
-use Rattle.orders.specs.declared.answer.Answer.TheVariants.{BecameDue}
-use Rattle.orders.specs.declared.order.Order.TheVariants.{Carry}
-use Rattle.laws.specs.Entries.{Entry}
+use Rattle.theory.proofs.Words.{Message, listed_as, BecameDue, Carry, Entry}
 use Rattle.theory.proofs.Lists.{All-weaker}
 use Rattle.theory.proofs.Cards.{Params, Fit, Card, Slip, highest, Decision}
 use Rattle.theory.proofs.Model.{put, Kind, writes, reads, tells, Msg, Phase, idle, due, awaiting, Client, State, Takes, entry, sets, phased, writing, Learnt, Counting, slip, ended, opened, Trace, opening, stirred, refused, wrote, asked, told, delivered, lost, counted, finished, decided, became, replica_gone, client_gone}

@@ -1,3 +1,4 @@
+pub mod Words
 pub mod Sets
 pub mod Cards
 pub mod Model

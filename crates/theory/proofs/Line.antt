@@ -3,7 +3,7 @@ use Rattle.std.proofs.Common.{◌≡◌, ℕ, ◌<◌, ◌≤◌, Bool, true, fa
 use Rattle.std.specs.List.{Contains, AllByRecursion}
 use Rattle.theory.proofs.Sets.{Distinct}
 use Rattle.theory.proofs.Cards.{Params, Fit}
-use Rattle.laws.specs.Entries.{Entry}
+use Rattle.theory.proofs.Words.{Entry}
 use Rattle.theory.proofs.Model.{State, Trace}
 use Rattle.theory.proofs.History.{Done, values, value_at, begun, done}
 

@@ -6,21 +6,7 @@ use Rattle.std.proofs.lemmas.List.{map-append, length-replicate, length-set}
 use Rattle.std.proofs.lemmas.Bool.{ltb-false, cases_eq, ne_eqb, eq-eqb, cond_both, cond-true, cond-false}
 use Rattle.std.proofs.lemmas.Bool.Decides.{nat_tests}
 use Rattle.std.proofs.lemmas.Nat.{pow_below, mod_below}
-use Rattle.wire.specs.declared.message.Message.{Message}
-use Rattle.orders.specs.declared.order.Order.{Order}
-use Rattle.orders.specs.declared.order.Order.TheVariants.{Write, Read, Tell, ReplicaOut, ClientOut}
-use Rattle.orders.specs.declared.answer.Refusal.{Refusal}
-use Rattle.orders.specs.declared.answer.Answer.{Answer}
-use Rattle.orders.specs.declared.answer.Answer.TheVariants.{Accepted, Refused}
-use Rattle.quorum.specs.Replies.{no_receipts, no_readings}
-use Rattle.quorum.specs.Slip.{blank_receipt, blank_reading}
-use Rattle.settings.specs.declared.checked.Checked.{Checked}
-use Rattle.client.specs.declared.client.Phase.{Phase}
-use Rattle.client.specs.declared.client.Phase.TheVariants.{Idle, Writing, Asking, Due, Telling}
-use Rattle.client.specs.declared.client.Client.{Client}
-use Rattle.register.specs.declared.register.Register.{Register}
-use Rattle.register.specs.Register.{client_at, with_client, blank_client}
-use Rattle.settings.specs.Checked.{mark_of}
+use Rattle.theory.proofs.Words.{Message, Order, Write, Read, Tell, ReplicaOut, ClientOut, Refusal, Answer, Accepted, Refused, no_receipts, no_readings, blank_receipt, blank_reading, Checked, Phase, Idle, Writing, Asking, Due, Telling, Client, Register, client_at, with_client, blank_client, mark_of, World, Called, sent_by, Entry}
 use Rattle.client.specs.declared.start.Round.TheVariants.{Write as WriteRound, Read as ReadRound, Tell as TellRound}
 use Rattle.register.specs.Refuse as refuse
 use Rattle.register.specs.Send.{toward, copies}
@@ -28,8 +14,6 @@ use Rattle.register.specs.Refuse.{is_idle, is_due, refusal}
 use Rattle.register.specs.Calls.{accepted, put_out, unless, answer_by, gone}
 use Rattle.client.specs.Start.{outgoing, raised, started, set_size}
 use Rattle.orders.specs.Order.{named}
-use Rattle.register.specs.World.{World, Called, sent_by}
-use Rattle.laws.specs.Entries.{Entry}
 use Rattle.theory.proofs.Lists.{All-append, All-push}
 use Rattle.theory.proofs.Members.{Among}
 use Rattle.theory.proofs.Cards.{Card}

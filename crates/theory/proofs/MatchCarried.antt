@@ -5,16 +5,7 @@ use Rattle.std.specs.List.{AllByRecursion}
 use Rattle.std.specs.List.Sorted.{IsPermutation}
 use Rattle.std.proofs.lemmas.Bool.Decides.{nat_tests}
 use Rattle.std.proofs.lemmas.Bool.{le-ltb, lt-leb, or_from, cond-true, cond-false}
-use Rattle.wire.specs.declared.message.Message.{Message}
-use Rattle.orders.specs.declared.order.Order.TheVariants.{Carry}
-use Rattle.orders.specs.declared.answer.Answer.{Answer}
-use Rattle.orders.specs.declared.answer.Answer.TheVariants.{Lost}
-use Rattle.settings.specs.declared.checked.Checked.{Checked}
-use Rattle.register.specs.declared.register.Register.{Register}
-use Rattle.wire.specs.Kind.{is_request, is_reply}
-use Rattle.register.specs.Handle.{is_stray, is_lost, by_case, handled, handled_answer, handled_reply}
-use Rattle.register.specs.World.{World}
-use Rattle.laws.specs.Entries.{Entry}
+use Rattle.theory.proofs.Words.{Message, Carry, Answer, Lost, Checked, Register, is_request, is_reply, is_stray, is_lost, by_case, handled, handled_answer, handled_reply, World, Entry}
 use Rattle.theory.proofs.Cards.{Slip}
 use Rattle.theory.proofs.Model as model
 use Rattle.theory.proofs.Model.{entry, Msg, Takes}

@@ -4,12 +4,8 @@ use mathlib.Core.List.{reverse_aux, reverse_aux-append}
 use Rattle.std.specs.List.{AllByRecursion}
 use Rattle.std.proofs.lemmas.List.{take_more_set, length-set, map-append}
 use Rattle.std.proofs.lemmas.Bool.{and_parts, and_from, or_parts, or_from, ltb-true, lt-ltb, not-true, not_from_false, eqb-false, ne_eqb, cond-true}
-use Rattle.wire.specs.declared.message.Message.{Message}
+use Rattle.theory.proofs.Words.{Message, Reading, from, adds, Receipts, Readings, with_receipt, with_reading, receipt_of, reading_of}
 use Rattle.quorum.specs.declared.slip.Receipt.{Receipt}
-use Rattle.quorum.specs.declared.slip.Reading.{Reading}
-use Rattle.quorum.specs.Tally.{from, adds}
-use Rattle.quorum.specs.Replies.{Receipts, Readings, with_receipt, with_reading}
-use Rattle.quorum.specs.Slip.{receipt_of, reading_of}
 use Rattle.quorum.proofs.From.{once_added}
 use Rattle.theory.proofs.Lists.{all_reverse, all_from_reverse, All-push}
 use Rattle.theory.proofs.Sets.{Lacks}

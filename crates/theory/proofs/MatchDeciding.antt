@@ -1,12 +1,11 @@
 -- Deciding a read: what it means that the model decides from the slips as the rules do from the readings. It ends in `AllJudged`.
 use Rattle.std.proofs.Common.{◌≡◌, ◌-◌, ◌<◌, true, false, List, length}
 use Rattle.std.specs.List.{Contains}
-use Rattle.quorum.specs.declared.slip.Reading.{Reading}
+use Rattle.theory.proofs.Words.{Reading, Highest, Previous, Checked}
 use Rattle.quorum.specs.declared.decide.Verdict.{Verdict}
-use Rattle.quorum.specs.declared.decide.Verdict.TheVariants.{Highest, Due, Previous}
+use Rattle.quorum.specs.declared.decide.Verdict.TheVariants.{Due}
 use Rattle.quorum.specs.declared.decide.Decided.{Decided}
 use Rattle.quorum.specs.Decide.{decided}
-use Rattle.settings.specs.declared.checked.Checked.{Checked}
 use Rattle.theory.proofs.Cards.{Params, Slip, highest, Decision}
 use Rattle.theory.proofs.Matching.{params_of, ReadingsAre}
 

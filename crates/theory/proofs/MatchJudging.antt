@@ -5,14 +5,13 @@ use lib.Bits.{bit_and, and_comm, and_le_r}
 use Rattle.std.specs.List.{Contains, AllByRecursion, best_of}
 use Rattle.std.proofs.lemmas.List.{length-reverse, length-map}
 use Rattle.std.proofs.lemmas.Bool.{cases_lt, cond_both, both_ways, eqb-true, eqb-false, eq-eqb, leb-true, leb-false, le-leb, and_parts, and_from, or_cases, or_parts}
-use Rattle.quorum.specs.declared.slip.Reading.{Reading}
-use Rattle.quorum.specs.declared.decide.Verdict.TheVariants.{Highest, Due, Previous}
+use Rattle.theory.proofs.Words.{Reading, Highest, Previous, Checked}
+use Rattle.quorum.specs.declared.decide.Verdict.TheVariants.{Due}
 use Rattle.quorum.specs.Masks.{covers}
 use Rattle.quorum.specs.Highest.{highest_of, notes_at, lowest_of, lowest_at}
 use Rattle.quorum.specs.Agree.{agreed}
 use Rattle.quorum.specs.Decide.{verdict_at, decided_at}
 use Rattle.quorum.proofs.Agreements.{SomeMaskAgreement, mask_from_agreed, agreed_from_mask}
-use Rattle.settings.specs.declared.checked.Checked.{Checked}
 use Rattle.theory.proofs.Lists.{All-contains, All-filter, All-weaker, filter_passes, has_here, has_there}
 use Rattle.theory.proofs.Sets.{Within}
 use Rattle.theory.proofs.Cards.{Params, Slip, highest, Several, Noted, Seen}

@@ -5,13 +5,8 @@ use lib.Count.{ones, ones_cat, ones-ones}
 use Rattle.std.proofs.lemmas.List.{get_or-replicate, length-replicate}
 use Rattle.std.proofs.lemmas.Nat.{pow_below, mod_below}
 use Rattle.std.proofs.lemmas.Bool.{ne_eqb, cond_both}
-use Rattle.replica.specs.Row.{opened_row}
-use Rattle.settings.specs.declared.checked.Checked.{Checked}
-use Rattle.register.specs.Register.{opened, blank_row, blank_client}
+use Rattle.theory.proofs.Words.{opened_row, Checked, opened, blank_row, blank_client, mark_of, world, empty}
 use Rattle.client.specs.Client.{opened_client}
-use Rattle.settings.specs.Checked.{mark_of}
-use Rattle.register.specs.World.{world}
-use Rattle.wire.specs.Channel.{empty}
 use Rattle.theory.proofs.Cards.{Fit}
 use Rattle.theory.proofs.Model as model
 use Rattle.theory.proofs.Matching.{params_of, RowMatches, ClientMatches, Matches}

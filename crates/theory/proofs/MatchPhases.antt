@@ -2,13 +2,8 @@
 use Rattle.std.proofs.Common.{◌≡◌, ℕ, suc, ◌+◌, ◌-◌, ◌*◌, ◌<◌, ◌≤◌, true, false, eqb, ◌⊎◌, List, map, reverse, ◌∷◌, length, take, sym, refl, ap, ◌∙◌, subst, inl, inr, arith}
 use Rattle.std.proofs.lemmas.Bool.Decides.{nat_tests}
 use Rattle.std.proofs.lemmas.Bool.{eqb-true, eq-eqb, leb-false}
-use Rattle.wire.specs.declared.message.Message.{Message}
-use Rattle.quorum.specs.Slip.{receipt_of, reading_of}
+use Rattle.theory.proofs.Words.{Message, receipt_of, reading_of, adds, Checked, Phase, Idle, Writing, Asking, Due, Telling}
 use Rattle.quorum.specs.declared.replies.Replies.{Replies}
-use Rattle.quorum.specs.Tally.{adds}
-use Rattle.settings.specs.declared.checked.Checked.{Checked}
-use Rattle.client.specs.declared.client.Phase.{Phase}
-use Rattle.client.specs.declared.client.Phase.TheVariants.{Idle, Writing, Asking, Due, Telling}
 use Rattle.client.specs.Hear.{awaited, uncounted, joined, tallied, quorum_of, is_complete}
 use Rattle.theory.proofs.Sets.{Lacks}
 use Rattle.theory.proofs.Cards.{Slip, replicas_of}

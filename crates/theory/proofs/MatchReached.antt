@@ -3,15 +3,7 @@ use Rattle.std.proofs.Common.{◌≡◌, ℕ, List, ◌∷◌, map, sym, refl, s
 use Rattle.std.specs.List.{AllByRecursion}
 use Rattle.std.specs.List.Sorted.{IsPermutation}
 use Rattle.std.proofs.lemmas.List.Sorted.{IsPermutation-sym}
-use Rattle.wire.specs.declared.message.Message.{Message}
-use Rattle.orders.specs.declared.order.Order.{Order}
-use Rattle.orders.specs.declared.answer.Refusal.{Refusal}
-use Rattle.orders.specs.declared.answer.Refusal.TheVariants.{Unknown}
-use Rattle.orders.specs.declared.answer.Answer.TheVariants.{Refused}
-use Rattle.settings.specs.declared.checked.Checked.{Checked}
-use Rattle.register.specs.declared.register.Register.{Register}
-use Rattle.register.specs.World.{World}
-use Rattle.laws.specs.Entries.{Entry}
+use Rattle.theory.proofs.Words.{Message, Order, Refusal, Unknown, Refused, Checked, Register, World, Entry}
 use Rattle.theory.proofs.Lists.{All-permutation}
 use Rattle.theory.proofs.Model as model
 use Rattle.theory.proofs.Model.{entry, Same}

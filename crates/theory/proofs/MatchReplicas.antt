@@ -6,20 +6,8 @@ use Rattle.std.specs.List.Sorted.{IsPermutation}
 use Rattle.std.proofs.lemmas.List.{length-set, set-get_or}
 use Rattle.std.proofs.lemmas.Bool.Decides.{nat_tests}
 use Rattle.std.proofs.lemmas.Bool.{cases_Bool, ltb-true, ltb-false, leb-true, leb-false, le-ltb, lt-ltb, lt-leb, le-leb, or_from, or_right, and_from, cond_both, cond-true, cond-false}
-use Rattle.wire.specs.declared.message.Message.{Message}
-use Rattle.orders.specs.declared.order.Order.TheVariants.{Carry}
-use Rattle.orders.specs.declared.answer.Answer.{Answer}
-use Rattle.orders.specs.declared.answer.Answer.TheVariants.{Replied, Ignored}
-use Rattle.replica.specs.declared.row.Row.{Row}
-use Rattle.replica.specs.Row.{record_of, delivered, delivered_reply}
+use Rattle.theory.proofs.Words.{Message, Carry, Answer, Replied, Ignored, Row, record_of, delivered, delivered_reply, Checked, Register, row_at, with_row, blank_row, is_request, is_stray, is_lost, handled, handled_answer, handled_reply, replied_or, World, Entry}
 use Rattle.replica.specs.Replica.{misdirected, is_stale, is_news, fresh, reply_from}
-use Rattle.settings.specs.declared.checked.Checked.{Checked}
-use Rattle.register.specs.declared.register.Register.{Register}
-use Rattle.register.specs.Register.{row_at, with_row, blank_row}
-use Rattle.wire.specs.Kind.{is_request}
-use Rattle.register.specs.Handle.{is_stray, is_lost, handled, handled_answer, handled_reply, replied_or}
-use Rattle.register.specs.World.{World}
-use Rattle.laws.specs.Entries.{Entry}
 use Rattle.theory.proofs.Cards.{Card}
 use Rattle.theory.proofs.Model as model
 use Rattle.theory.proofs.Model.{entry, put, Msg, Same, taken, noting, after}

@@ -4,27 +4,11 @@ use Rattle.std.specs.Option.{option_to_list}
 use Rattle.std.specs.List.Sorted.{IsPermutation}
 use Rattle.std.proofs.lemmas.List.{set-get_or, length-reverse, length-map}
 use Rattle.std.proofs.lemmas.Bool.{cases_Bool, eqb-true, eq-eqb, leb-true, lt-leb, lt-ltb, and_parts, and_from, and_right, both_ways, cond-true, cond-false}
-use Rattle.wire.specs.declared.message.Message.{Message}
-use Rattle.orders.specs.declared.order.Order.TheVariants.{Carry}
-use Rattle.orders.specs.declared.answer.Answer.{Answer}
-use Rattle.orders.specs.declared.answer.Answer.TheVariants.{Ignored, Counted, BecameDue}
-use Rattle.quorum.specs.declared.slip.Reading.{Reading}
+use Rattle.theory.proofs.Words.{Message, Carry, Answer, Ignored, Counted, BecameDue, Reading, Highest, Previous, reading_of, with_reading, Checked, Phase, Idle, Writing, Asking, Due, Telling, Client, Register, client_at, with_client, blank_client, is_request, is_stray, is_lost, handled, handled_answer, handled_reply, World, Entry}
 use Rattle.quorum.specs.declared.decide.Verdict.{Verdict}
-use Rattle.quorum.specs.declared.decide.Verdict.TheVariants.{Highest, Due as Delayed, Previous}
-use Rattle.quorum.specs.Slip.{reading_of}
-use Rattle.quorum.specs.Replies.{with_reading}
-use Rattle.settings.specs.declared.checked.Checked.{Checked}
-use Rattle.client.specs.declared.client.Phase.{Phase}
-use Rattle.client.specs.declared.client.Phase.TheVariants.{Idle, Writing, Asking, Due, Telling}
-use Rattle.client.specs.declared.client.Client.{Client}
-use Rattle.register.specs.declared.register.Register.{Register}
-use Rattle.register.specs.Register.{client_at, with_client, blank_client}
+use Rattle.quorum.specs.declared.decide.Verdict.TheVariants.{Due as Delayed}
 use Rattle.client.specs.Client.{in_phase}
 use Rattle.client.specs.Hear.{awaited, uncounted, joined, counts, is_complete, heard, heard_answer, completed, completion, completed_in, completion_in, ended_as, shown_by, phase_by, knowing}
-use Rattle.wire.specs.Kind.{is_request}
-use Rattle.register.specs.Handle.{is_stray, is_lost, handled, handled_answer, handled_reply}
-use Rattle.register.specs.World.{World}
-use Rattle.laws.specs.Entries.{Entry}
 use Rattle.theory.proofs.Sets.{Lacks}
 use Rattle.theory.proofs.Cards.{Slip, replicas_of, highest, Decision}
 use Rattle.theory.proofs.Model as model

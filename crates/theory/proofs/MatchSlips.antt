@@ -2,8 +2,7 @@
 use Rattle.std.proofs.Common.{◌≡◌, ℕ, ◌≤◌, Bool, true, List, [], ◌∷◌, map, count_by, sym, subst, arith}
 use Rattle.std.specs.List.{Contains, AllByRecursion}
 use Rattle.std.proofs.lemmas.List.Sums.{length-filter}
-use Rattle.quorum.specs.declared.slip.Reading.{Reading}
-use Rattle.quorum.specs.Tally.{Once}
+use Rattle.theory.proofs.Words.{Reading, Once}
 use Rattle.theory.proofs.Lists.{all_reverse, all_from_reverse, all_from_map, All-map, All-contains_itself}
 use Rattle.theory.proofs.Sets.{Distinct}
 use Rattle.theory.proofs.Cards.{Card, Slip, Several}

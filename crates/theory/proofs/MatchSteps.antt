@@ -5,15 +5,7 @@ use Rattle.std.specs.List.{AllByRecursion}
 use Rattle.std.specs.List.Sorted.{IsPermutation}
 use Rattle.std.proofs.lemmas.List.Sorted.{IsPermutation-refl}
 use Rattle.std.proofs.lemmas.Bool.{cases_lt}
-use Rattle.wire.specs.declared.message.Message.{Message}
-use Rattle.orders.specs.declared.order.Order.{Order}
-use Rattle.orders.specs.declared.order.Order.TheVariants.{Write, Read, Tell, Carry, ReplicaOut, ClientOut}
-use Rattle.orders.specs.declared.answer.Refusal.TheVariants.{NothingWaits}
-use Rattle.orders.specs.declared.answer.Answer.{Answer}
-use Rattle.settings.specs.declared.checked.Checked.{Checked}
-use Rattle.register.specs.Handle.{handled_reply}
-use Rattle.register.specs.World.{World, Carried, Starved, Answered, sent_in}
-use Rattle.laws.specs.Entries.{Entry}
+use Rattle.theory.proofs.Words.{Message, Order, Write, Read, Tell, Carry, ReplicaOut, ClientOut, NothingWaits, Answer, Checked, handled_reply, World, Carried, Starved, Answered, sent_in, Entry}
 use Rattle.theory.proofs.Lists.{All-permutation}
 use Rattle.theory.proofs.Model as model
 use Rattle.theory.proofs.Model.{entry}

@@ -5,7 +5,7 @@ use Rattle.std.specs.List.Sorted.{IsPermutation}
 use Rattle.std.proofs.lemmas.List.{get_or-set_same, get_or-set_other}
 use Rattle.std.proofs.lemmas.Bool.{cases_Bool, eqb-true, eqb-false}
 use Rattle.std.proofs.lemmas.List.Sorted.{IsPermutation-sym}
-use Rattle.wire.specs.declared.message.Message.{Message}
+use Rattle.theory.proofs.Words.{Message}
 use Rattle.theory.proofs.Lists.{All-weaker, All-permutation}
 use Rattle.theory.proofs.Members.{Among}
 use Rattle.theory.proofs.Model.{put, Msg, Same}

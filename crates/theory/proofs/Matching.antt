@@ -1,22 +1,7 @@
 -- How a world of the register and a state of the model match.
 use Rattle.std.proofs.Common.{◌≡◌, ℕ, ◌+◌, ◌-◌, ◌*◌, ◌<◌, ◌≤◌, Bool, false, cond, eqb, ltb, List, map, reverse, length, get_or, take}
 use Rattle.std.specs.List.{AllByRecursion}
-use Rattle.wire.specs.declared.message.Message.{Message}
-use Rattle.quorum.specs.declared.slip.Reading.{Reading}
-use Rattle.quorum.specs.Replies.{Receipts, Readings}
-use Rattle.quorum.specs.Tally.{Once}
-use Rattle.replica.specs.declared.row.Row.{Row}
-use Rattle.settings.specs.declared.checked.Checked.{Checked}
-use Rattle.client.specs.declared.client.Phase.{Phase}
-use Rattle.client.specs.declared.client.Phase.TheVariants.{Idle, Writing, Asking, Due, Telling}
-use Rattle.client.specs.declared.client.Client.{Client}
-use Rattle.register.specs.declared.register.Register.{Register}
-use Rattle.register.specs.Register.{opened, blank_row, blank_client}
-use Rattle.settings.specs.Checked.{mark_of}
-use Rattle.register.specs.World.{World, world}
-use Rattle.wire.specs.Channel.{empty}
-use Rattle.laws.specs.Entries.{Entry}
-use Rattle.register.specs.Past.{Past}
+use Rattle.theory.proofs.Words.{Message, Reading, Receipts, Readings, Once, Row, Checked, Phase, Idle, Writing, Asking, Due, Telling, Client, Register, opened, blank_row, blank_client, mark_of, World, world, empty, Entry, Past}
 use Rattle.theory.proofs.Cards.{Params, Card, Slip, replicas_of}
 use Rattle.theory.proofs.Model as model
 

@@ -1,13 +1,7 @@
 -- A small mathematical model of the register: tables as functions, one card for replica, slip and message, and its pasts. No statement mentions it.
 use Rattle.std.proofs.Common.{◌≡◌, ℕ, zero, suc, ◌+◌, ◌*◌, ◌<◌, ◌≤◌, max, Bool, true, false, cond, eqb, ltb, ◌⊎◌, List, [], ◌∷◌, ◌++◌, length, ℤ}
 use lib.Bits.{bit_or}
-use Rattle.wire.specs.declared.message.Message.{Message}
-use Rattle.orders.specs.declared.order.Order.{Order}
-use Rattle.orders.specs.declared.order.Order.TheVariants.{Write, Read, Tell, Carry, ReplicaOut, ClientOut}
-use Rattle.orders.specs.declared.answer.Answer.{Answer}
-use Rattle.orders.specs.declared.answer.Answer.TheVariants.{Accepted, Replied, Counted, Ended, BecameDue}
-use Rattle.orders.specs.Answer.{listed_as}
-use Rattle.laws.specs.Entries.{Entry}
+use Rattle.theory.proofs.Words.{Message, Order, Write, Read, Tell, Carry, ReplicaOut, ClientOut, Answer, Accepted, Replied, Counted, Ended, BecameDue, listed_as, Entry}
 use Rattle.std.specs.List.{Contains}
 use Rattle.theory.proofs.Members.{Among}
 use Rattle.theory.proofs.Sets.{Lacks}

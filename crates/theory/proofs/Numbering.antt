@@ -1,10 +1,7 @@
 -- The nth accepted write has version n: ends in `numbered`.
 use Rattle.std.proofs.Common.{◌≡◌, ℕ, suc, List, ◌∷◌, length, ℤ, sym, refl, ap, ◌∙◌, subst, inl, inr, arith}
 use Rattle.std.specs.List.{AllByRecursion}
-use Rattle.wire.specs.declared.message.Message.{Message}
-use Rattle.orders.specs.declared.answer.Answer.TheVariants.{Accepted}
-use Rattle.orders.specs.declared.order.Order.TheVariants.{Write, Carry}
-use Rattle.laws.specs.Entries.{Entry}
+use Rattle.theory.proofs.Words.{Message, Accepted, Write, Carry, Entry}
 use Rattle.theory.proofs.Lists.{All-weaker}
 use Rattle.theory.proofs.Cards.{Params, Fit, Slip}
 use Rattle.theory.proofs.Model.{put, Kind, reads, Msg, idle, Client, State, Takes, entry, Counting, ended, Trace, opening, stirred, refused, wrote, asked, told, delivered, lost, counted, finished, decided, became, replica_gone, client_gone}

@@ -2,7 +2,7 @@
 use Rattle.std.proofs.Common.{◌≡◌, ℕ, suc, ◌<◌, ◌≤◌, false, ◌⊎◌, List, [], ◌∷◌, length, ℤ, sym, refl, ap, ◌∙◌, subst, inl, inr, arith}
 use Rattle.std.proofs.lemmas.Bool.{cases_eq, cases_lt, cond-false, ne_eqb, false≢true}
 use Rattle.std.specs.List.{Contains, AllByRecursion}
-use Rattle.laws.specs.Entries.{Entry}
+use Rattle.theory.proofs.Words.{Entry}
 use Rattle.theory.proofs.Lists.{All-map, All-contains, All-contains_itself, All-weaker, has_here, has_there}
 use Rattle.theory.proofs.Sets.{Distinct}
 use Rattle.theory.proofs.Cards.{Params, Fit}

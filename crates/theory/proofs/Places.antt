@@ -4,10 +4,7 @@ use mathlib.Core.List.{reverse-cons, reverse-reverse}
 use Rattle.std.specs.List.{AllByRecursion}
 use Rattle.std.proofs.lemmas.List.{length_push}
 use Rattle.std.proofs.lemmas.Bool.{cases_order}
-use Rattle.orders.specs.declared.order.Order.{Order}
-use Rattle.orders.specs.declared.order.Order.TheVariants.{Write, Read, Tell, ClientOut}
-use Rattle.orders.specs.Answer.{listed_as}
-use Rattle.laws.specs.Entries.{Entry}
+use Rattle.theory.proofs.Words.{Order, Write, Read, Tell, ClientOut, listed_as, Entry}
 use Rattle.laws.specs.Operations as entries
 use Rattle.laws.specs.Laws as laws
 use Rattle.theory.proofs.Tracking.{at_below}

@@ -2,7 +2,7 @@
 use Rattle.std.proofs.Common.{◌≡◌, ℕ, zero, suc, ◌+◌, ◌*◌, ◌<◌, ◌≤◌, Bool, true, false, cond, eqb, ◌⊎◌, List, [], ◌∷◌, ◌++◌, length, ℤ, sym, refl, ap, ◌∙◌, subst, inl, inr, arith}
 use Rattle.std.proofs.lemmas.List.{length-map}
 use Rattle.std.proofs.lemmas.Bool.{cases_Bool, cases_eq, eqb-true, both_ways, true≢false}
-use Rattle.laws.specs.Entries.{Entry}
+use Rattle.theory.proofs.Words.{Entry}
 use Rattle.theory.proofs.Cards.{Params, Fit, Card, Slip, replicas_of}
 use Rattle.theory.proofs.Model.{put, Kind, writes, reads, tells, Msg, Phase, idle, due, awaiting, Client, State, sent, carried, Takes, sets, drops, answers, delivers, phased, writing, asking, Counting, slip, Short, out_count, Trace, opening, stirred, refused, wrote, asked, told, delivered, lost, counted, finished, decided, became, replica_gone, client_gone}
 use Rattle.theory.proofs.History.{values}

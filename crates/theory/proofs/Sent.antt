@@ -5,34 +5,14 @@ use Rattle.std.proofs.lemmas.List.Sums.{sum_by_push}
 use Rattle.std.proofs.lemmas.Bool.Decides.{nat_tests}
 use Rattle.std.proofs.lemmas.Bool.{cases_Bool, cond_both, lt-leb, and_left, or_parts, ltb-false, eqb-true, eqb-false, eq-eqb, ne_eqb}
 use Rattle.std.specs.Option.{option_to_list}
-use Rattle.wire.specs.declared.message.Message.{Message}
-use Rattle.orders.specs.declared.order.Order.{Order}
-use Rattle.orders.specs.declared.order.Order.TheVariants.{Write, Read, Tell, Carry, ReplicaOut, ClientOut}
-use Rattle.orders.specs.declared.answer.Refusal.{Refusal}
-use Rattle.orders.specs.declared.answer.Refusal.TheVariants.{Unknown}
-use Rattle.orders.specs.declared.answer.Answer.{Answer}
-use Rattle.orders.specs.declared.answer.Answer.TheVariants.{Refused}
-use Rattle.orders.specs.Answer.{listed_as, number_of}
-use Rattle.replica.specs.declared.row.Row.{Row}
+use Rattle.theory.proofs.Words.{Message, Order, Write, Read, Tell, Carry, ReplicaOut, ClientOut, Refusal, Unknown, Answer, Refused, listed_as, number_of, Row, record_of, Checked, Register, opened, row_at, client_at, is_request, is_stray, is_lost, handled_reply, World, world, Answered, Called, sent_by, sent_in, empty, Entry, Step, Past, start, more, code, own_messages}
 use Rattle.replica.specs.Replica.{replied, reply_from, fresh}
-use Rattle.replica.specs.Row.{record_of}
-use Rattle.settings.specs.declared.checked.Checked.{Checked}
-use Rattle.register.specs.declared.register.Register.{Register}
-use Rattle.register.specs.Register.{opened, row_at, client_at}
-use Rattle.wire.specs.Kind.{is_request}
-use Rattle.register.specs.Handle.{is_stray, is_lost, handled_reply}
 use Rattle.register.specs.Send.{toward, copies}
 use Rattle.register.specs.Refuse.{refusal}
 use Rattle.register.specs.Calls.{put_out, unless, answer_by}
 use Rattle.client.specs.declared.start.Round.TheVariants.{Write as WriteRound, Read as ReadRound, Tell as TellRound}
 use Rattle.client.specs.Start.{outgoing, started}
 use Rattle.orders.specs.Order.{named}
-use Rattle.register.specs.World.{World, world, Answered, Called, sent_by, sent_in}
-use Rattle.wire.specs.Channel.{empty}
-use Rattle.laws.specs.Entries.{Entry}
-use Rattle.register.specs.Past.{Step, Past, start, more}
-use Rattle.laws.specs.Operations.{code}
-use Rattle.laws.specs.Laws.{own_messages}
 use Rattle.theory.proofs.Lists.{All-push}
 use Rattle.theory.proofs.Matching.{AllTraced}
 use Rattle.theory.proofs.Places.{NoReadOfWriter}

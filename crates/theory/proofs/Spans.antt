@@ -4,12 +4,7 @@ use Rattle.std.specs.List.{Contains, AllByRecursion}
 use Rattle.std.proofs.lemmas.List.{length_push, length-drop, drop-append-le, drop_at, take-append-le, take_all}
 use Rattle.std.proofs.lemmas.List.Sums.{sum_by_push}
 use Rattle.std.proofs.lemmas.Bool.{cases_Bool, cond-true, cond-false, lt-ltb, eqb-true}
-use Rattle.orders.specs.declared.order.Order.{Order}
-use Rattle.orders.specs.declared.order.Order.TheVariants.{Write, Read, Tell}
-use Rattle.orders.specs.Answer.{listed_as}
-use Rattle.settings.specs.declared.checked.Checked.{Checked}
-use Rattle.laws.specs.Entries.{Entry}
-use Rattle.laws.specs.Laws.{own_messages, span, rounds_of, messages_of}
+use Rattle.theory.proofs.Words.{Order, Write, Read, Tell, listed_as, Checked, Entry, own_messages, span, rounds_of, messages_of}
 use Rattle.theory.proofs.Lists.{All-weaker, All-contains}
 use Rattle.theory.proofs.History.{Done, begun, begun_by, spent, spent_by, done}
 use Rattle.theory.proofs.Calls.{At}

@@ -1,10 +1,7 @@
 -- Every past of the register is a trace of the model. It ends in `all_traced`.
 use Rattle.std.proofs.Common.{List, [], ◌∷◌, ◌++◌, reverse, sym, subst}
 use mathlib.Core.List.{reverse_aux-append}
-use Rattle.settings.specs.declared.checked.Checked.{Checked}
-use Rattle.register.specs.World.{World}
-use Rattle.laws.specs.Entries.{Entry}
-use Rattle.register.specs.Past.{start, more}
+use Rattle.theory.proofs.Words.{Checked, World, Entry, start, more}
 use Rattle.theory.proofs.Model as model
 use Rattle.theory.proofs.Matching.{params_of, Traced, AllTraced}
 use Rattle.theory.proofs.MatchOpening.{opening_matches}

@@ -2,9 +2,7 @@
 use Rattle.std.proofs.Common.{◌≡◌, ℕ, ◌<◌, eqb, ◌⊎◌, List, [], ◌∷◌, length, sym, refl, ap, ◌∙◌, subst, inl, inr, arith}
 use Rattle.std.proofs.lemmas.Bool.{cases_Bool, cases_order, eq-eqb}
 use Rattle.std.specs.List.{Contains, AllByRecursion}
-use Rattle.orders.specs.Answer.{listed_as}
-use Rattle.orders.specs.declared.order.Order.TheVariants.{Tell}
-use Rattle.laws.specs.Entries.{Entry}
+use Rattle.theory.proofs.Words.{listed_as, Tell, Entry}
 use Rattle.theory.proofs.Lists.{All-contains, All-weaker, has_here, has_there}
 use Rattle.theory.proofs.Model.{Phase, idle, due, awaiting, Client}
 use Rattle.theory.proofs.History.{Done, begun, done}

@@ -4,11 +4,7 @@ use Rattle.std.specs.List.{AllByRecursion}
 use Rattle.std.proofs.lemmas.List.{take-append-le, take_at}
 use Rattle.std.proofs.lemmas.List.Sums.{sum_by_push}
 use Rattle.std.proofs.lemmas.Bool.{cases_Bool, cond-true, cond-false, eqb-true, eq-eqb, ne_eqb}
-use Rattle.orders.specs.declared.order.Order.{Order}
-use Rattle.orders.specs.declared.order.Order.TheVariants.{Write, Read}
-use Rattle.orders.specs.Answer.{listed_as}
-use Rattle.laws.specs.Entries.{Entry}
-use Rattle.laws.specs.Operations.{code, is_write, writes_before}
+use Rattle.theory.proofs.Words.{Order, Write, Read, listed_as, Entry, code, is_write, writes_before}
 use Rattle.theory.proofs.History.{values, values_by, value_at, begun, begun_by}
 use Rattle.theory.proofs.Calls.{At, Calls, Starts, WriteNo}
 use Rattle.theory.proofs.Places.{oldest, length_oldest, NoReadOfWriter, write_at}
