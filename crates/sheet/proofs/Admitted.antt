@@ -5,16 +5,10 @@ use Rattle.std.specs.List.{AllByRecursion}
 use Rattle.std.proofs.lemmas.Fmt.{decimal_nonempty, decimal_digit, first_decimal, digits_decimal, digits_value-decimal}
 use Rattle.std.proofs.lemmas.Bool.{and_parts, and_left, and_right, cases_eq, cond-true, cond-false, le-ltb, ne_eqb, or_left, or_right, or_from}
 use Rattle.std.proofs.lemmas.Bool.Decides.{nat_tests}
-use Rattle.orders.specs.declared.order.Order.{Order}
-use Rattle.orders.specs.declared.order.Order.TheVariants.{Write, Read, Tell, Carry, ReplicaOut, ClientOut}
-use Rattle.settings.specs.declared.given.Settings.{Settings}
+use Rattle.sheet.proofs.Words.{Order, Write, Read, Tell, Carry, ReplicaOut, ClientOut, Settings, in_word, is_digit, all_digits, numeral, negated, amount, number_max, orders_max, number, value, kind, Placed, placed, head_words, order_words, SmallValue, SmallSettings, FineOrder, formed, above}
 use Rattle.sheet.specs.declared.kind.Kind.{Kind}
 use Rattle.sheet.specs.declared.kind.Kind.TheVariants as of
 use Rattle.sheet.specs.Kind.{word_for}
-use Rattle.sheet.specs.Word.{in_word, is_digit, all_digits, numeral, negated, amount}
-use Rattle.settings.specs.Limits.{number_max, orders_max}
-use Rattle.sheet.specs.Form.{number, value, kind, Placed, placed, head_words, order_words, SmallValue, SmallSettings, FineOrder}
-use Rattle.sheet.specs.FirstFault.{formed, above}
 use Rattle.sheet.proofs.Numbers.{own}
 use Rattle.sheet.proofs.Unique.{Plain, Good}
 

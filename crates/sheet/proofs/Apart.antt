@@ -4,12 +4,7 @@ use lib.Signed.{mag}
 use Rattle.std.specs.Fmt.{signed_decimal}
 use Rattle.std.specs.List.{AllByRecursion}
 use Rattle.std.proofs.lemmas.Fmt.{decimal_injective, signed_decimal_injective}
-use Rattle.orders.specs.declared.order.Order.{Order}
-use Rattle.orders.specs.declared.order.Order.TheVariants.{Write, Read, Tell, Carry, ReplicaOut, ClientOut}
-use Rattle.settings.specs.declared.given.Settings.{Settings}
-use Rattle.sheet.specs.Word.{closed}
-use Rattle.settings.specs.Limits.{number_max, orders_max}
-use Rattle.sheet.specs.Form.{Due, number, value, kind, Placed, placed, head_words, order_words, lines_of, about_words, bytes_of, SmallValue, SmallOrder, SmallSettings, FineOrder}
+use Rattle.sheet.proofs.Words.{Order, Write, Read, Tell, Carry, ReplicaOut, ClientOut, Settings, closed, number_max, orders_max, Due, number, value, kind, Placed, placed, head_words, order_words, lines_of, about_words, bytes_of, SmallValue, SmallOrder, SmallSettings, FineOrder}
 use Rattle.sheet.specs.declared.kind.Kind.{Kind}
 use Rattle.sheet.specs.declared.kind.Kind.TheVariants as of
 use Rattle.sheet.specs.Kind.{kind_of, kind_at, word_for, separator_for}

@@ -1,11 +1,6 @@
 -- The number of orders behind some words: what a fault there means for all of them.
 use Rattle.std.proofs.Common.{◌≡◌, ℕ, ◌+◌, ◌<◌, List, [], ◌++◌, length, decimal, sym, refl, ap, ◌∙◌, subst, append_assoc, add-zero, arith}
-use Rattle.sheet.specs.Fault.{Shown, shows}
-use Rattle.sheet.specs.Word.{word_of}
-use Rattle.settings.specs.Limits.{orders_max}
-use Rattle.sheet.specs.Form.{Placed, placed, number, number_words, bytes_of, lines_in}
-use Rattle.sheet.specs.FirstFault.{Fault}
-use Rattle.sheet.specs.Steps.{Took, Overfull, Miscounted, wrong, many, Uncounted, unfit, unplaced}
+use Rattle.sheet.proofs.Words.{Shown, shows, word_of, orders_max, Placed, placed, number, number_words, bytes_of, lines_in, Fault, Took, Overfull, Miscounted, wrong, many, Uncounted, unfit, unplaced}
 use Rattle.sheet.proofs.Walks.{missed_unfit, later, bytes_append, lines_append}
 
 pub miscounted_word : (places : ℕ) (rest word : List ℕ) (line : ℕ) (f : Shown) → word ≡ word_of rest → 0 < length rest → Uncounted places word line f → Miscounted [] places rest line f

@@ -2,7 +2,7 @@
 use Rattle.std.proofs.Common.{◌≡◌, ℕ, ◌+◌, ◌-◌, ◌/◌, ◌%◌, ◌<◌, ◌≤◌, ◌^◌, ◌∷◌, [], arith, refl, decimal}
 use Rattle.std.proofs.lemmas.Fmt.{decimal_digit, decimal_step}
 use Rattle.sheet.specs.Listing.{end_of, line_of, plain_answer}
-use Rattle.sheet.specs.Word.{closed}
+use Rattle.sheet.proofs.Words.{closed}
 
 pub one_digit : (n separator : ℕ) → n < 10 → closed (decimal n) separator ≡ (48 + n) ∷ separator ∷ []
 one_digit n separator h = rw (decimal_digit n h) refl

@@ -1,13 +1,8 @@
 -- A sheet of the form is read as what it was made from; it ends in `exactly`.
 use Rattle.std.proofs.Common.{◌≡◌, ℕ, ◌≤◌, List, [], ◌++◌, length, take, Ok, Err, Result, sym, ap, ◌∙◌, arith}
 use Rattle.std.proofs.lemmas.List.{append-nil, length-take-le}
-use Rattle.orders.specs.declared.order.Order.{Order}
-use Rattle.settings.specs.declared.given.Settings.{Settings}
-use Rattle.sheet.specs.declared.fault.SheetFault.{SheetFault}
+use Rattle.sheet.proofs.Words.{Order, Settings, SheetFault, Shown, head_words, lines_of, bytes_of, sheet_of, Writable, FirstFault, in_head, crowded, in_order, behind}
 use Rattle.sheet.specs.declared.read.Reading.{Reading}
-use Rattle.sheet.specs.Fault.{Shown}
-use Rattle.sheet.specs.Form.{head_words, lines_of, bytes_of, sheet_of, Writable}
-use Rattle.sheet.specs.FirstFault.{FirstFault, in_head, crowded, in_order, behind}
 use Rattle.sheet.specs.Read.{Outcome, GivenAs}
 use Rattle.sheet.proofs.Apart.{head_peel, orders_peel}
 use Rattle.sheet.proofs.Excluded.{sheet_split, head_refuted, crowd_refuted, line_refuted}

@@ -2,13 +2,7 @@
 use Rattle.std.proofs.Common.{◌≡◌, ℕ, ◌+◌, ◌<◌, ◌≤◌, List, [], ◌∷◌, ◌++◌, length, decimal, sym, refl, ap, ◌∙◌, append_assoc, arith}
 use Rattle.std.specs.List.{AllByRecursion}
 use Rattle.std.proofs.lemmas.Fmt.{decimal_injective}
-use Rattle.orders.specs.declared.order.Order.{Order}
-use Rattle.settings.specs.declared.given.Settings.{Settings}
-use Rattle.sheet.specs.Fault.{Shown}
-use Rattle.sheet.specs.Word.{word_of, closed}
-use Rattle.settings.specs.Limits.{orders_max}
-use Rattle.sheet.specs.Form.{Placed, placed, number, number_words, title_words, settings_words, orders_words, head_words, order_words, lines_of, bytes_of, SmallSettings, FineOrder}
-use Rattle.sheet.specs.FirstFault.{Fault, InHead, Crowded, InOrder}
+use Rattle.sheet.proofs.Words.{Order, Settings, Shown, word_of, closed, orders_max, Placed, placed, number, number_words, title_words, settings_words, orders_words, head_words, order_words, lines_of, bytes_of, SmallSettings, FineOrder, Fault, InHead, Crowded, InOrder}
 use Rattle.sheet.proofs.Unique.{Good, word_closed, peel}
 use Rattle.sheet.proofs.Admitted.{Admitted, head_admitted, order_admitted, number_admitted}
 use Rattle.sheet.proofs.Refuted.{Matches, fault_refuted}

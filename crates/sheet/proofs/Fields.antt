@@ -1,10 +1,6 @@
 -- A word that is judged, and its separator: what a field means for the words that are due; it ends in `stepped` and `counted`.
 use Rattle.std.proofs.Common.{◌≡◌, ℕ, ◌≤◌, List, [], ◌∷◌, decimal, Ok, Err, Bor, Result, MatchResult, subst, arith}
-use Rattle.sheet.specs.declared.fault.SheetFault.{SheetFault}
-use Rattle.sheet.specs.Fault.{shown}
-use Rattle.settings.specs.Limits.{orders_max}
-use Rattle.sheet.specs.Form.{Due, placed, number}
-use Rattle.sheet.specs.Steps.{Closed, Unfit, Counts, Uncounted, Fielded, missing, refused, unclosed, Stepped, Counted, wrong}
+use Rattle.sheet.proofs.Words.{SheetFault, shown, orders_max, Due, placed, number, Closed, Unfit, Counts, Uncounted, Fielded, missing, refused, unclosed, Stepped, Counted, wrong}
 use Rattle.sheet.proofs.Counting.{miscounted_word}
 use Rattle.sheet.proofs.Walks.{took_closed, missed_ended, missed_unfit, missed_unclosed}
 

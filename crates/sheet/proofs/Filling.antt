@@ -3,12 +3,7 @@ use Rattle.std.proofs.Common.{◌≡◌, ℕ, ◌+◌, ◌<◌, ◌≤◌, List,
 use Rattle.std.specs.List.{AllByRecursion}
 use Rattle.std.proofs.lemmas.List.{take_more_set, flat_map_more, drop-set-lt, drop-drop, take-append-le, drop-append-le, take-append-drop, length-take-le}
 use Rattle.std.proofs.lemmas.List.Elements.{All-from_recursion, All-push, recursion_from_All}
-use Rattle.orders.specs.declared.order.Order.{Order}
-use Rattle.orders.specs.declared.order.Order.TheVariants.{Write, Read, Tell, Carry, ReplicaOut, ClientOut}
-use Rattle.sheet.specs.Fault.{Shown}
-use Rattle.sheet.specs.FirstFault.{Fault}
-use Rattle.sheet.specs.Form.{Placed, bytes_of, lines_in, lines_of, order_words, FineOrder}
-use Rattle.sheet.specs.Steps.{Took, Filled, Missed, Stopped}
+use Rattle.sheet.proofs.Words.{Order, Write, Read, Tell, Carry, ReplicaOut, ClientOut, Shown, Fault, Placed, bytes_of, lines_in, lines_of, order_words, FineOrder, Took, Filled, Missed, Stopped}
 use Rattle.sheet.proofs.Walks.{both}
 
 pub order_line : (o : Order) → lines_in (order_words o) ≡ 1

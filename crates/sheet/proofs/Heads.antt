@@ -1,11 +1,6 @@
 -- A fault in one of the first three lines is a fault of all three.
 use Rattle.std.proofs.Common.{ℕ, List, ◌++◌, pos, arith}
-use Rattle.settings.specs.declared.given.Settings.{Settings}
-use Rattle.sheet.specs.Fault.{Shown}
-use Rattle.settings.specs.Limits.{orders_max}
-use Rattle.sheet.specs.Form.{title_words, settings_words, orders_words, number_words, SmallSettings}
-use Rattle.sheet.specs.FirstFault.{Fault}
-use Rattle.sheet.specs.Steps.{Took, Missed, Miscounted, wrong, many, HeadFault, spoiled, packed}
+use Rattle.sheet.proofs.Words.{Settings, Shown, orders_max, title_words, settings_words, orders_words, number_words, SmallSettings, Fault, Took, Missed, Miscounted, wrong, many, HeadFault, spoiled, packed}
 use Rattle.sheet.proofs.Walks.{later, longer}
 use Rattle.sheet.proofs.Counting.{overfull_after}
 

@@ -1,4 +1,5 @@
 -- The lemmas, from numbers and single words up to whole sheets.
+pub mod Words
 pub mod Numbers
 pub mod Walks
 pub mod Counting

@@ -7,11 +7,7 @@ use Rattle.std.proofs.lemmas.Str.{IsUtf8-from_ascii}
 use Rattle.std.proofs.lemmas.Str.Parse.{IsNumeralModel, numerals_by_fold}
 use Rattle.std.proofs.lemmas.Bool.{cases_eq, false≢true}
 use Rattle.std.proofs.lemmas.Int.{ints, to_z_pos}
-use Rattle.settings.specs.Limits.{number_max}
-use Rattle.sheet.specs.Form.{number}
-use Rattle.sheet.specs.FirstFault.{above}
-use Rattle.sheet.specs.Steps.{Counts, Values}
-use Rattle.sheet.specs.Word.{all_digits, amount, numeral, negated, sorted, digits, negative, name}
+use Rattle.sheet.proofs.Words.{number_max, number, above, Counts, Values, all_digits, amount, numeral, negated, sorted, digits, negative, name}
 
 pub own : IsNumeralModel (λ ds. all_digits ds ≡ true) amount
 own = numerals_by_fold _ (search rules) (λ n ds. fold (λ a b. a * 10 + (b - 48)) n ds) (search rules)

@@ -1,13 +1,10 @@
 -- The kinds of orders: an admitted order of each, and orders made of what stands behind the word of their kind.
 use Rattle.std.proofs.Common.{◌≡◌, ℕ, List, ◌++◌, pos, Ok, Err, Result, MatchResult, sym, refl, ap, subst, arith}
 use Rattle.std.specs.Result.{IsOkAnd}
-use Rattle.orders.specs.declared.order.Order.{Order}
+use Rattle.sheet.proofs.Words.{Order, SheetFault, kind_words, about_words, order_words, OfKind, Stepped, Took}
 use Rattle.orders.specs.declared.order.Order.TheVariants as order
-use Rattle.sheet.specs.declared.fault.SheetFault.{SheetFault}
 use Rattle.sheet.specs.declared.kind.Kind.{Kind}
 use Rattle.sheet.specs.declared.kind.Kind.TheVariants.{Write, Read, Tell, Carry, ReplicaOut, ClientOut}
-use Rattle.sheet.specs.Form.{kind_words, about_words, order_words, OfKind}
-use Rattle.sheet.specs.Steps.{Stepped, Took}
 
 -- some admitted order of a kind
 abbrev pub sample : Kind → Order

@@ -1,12 +1,8 @@
 -- From the reader's steps to what reading gives.
 use Rattle.std.proofs.Common.{◌≡◌, ℕ, ◌+◌, List, [], ◌++◌, length, take, sym, refl, ap, ◌∙◌, subst, append_assoc, arith}
 use Rattle.std.proofs.lemmas.List.{append-nil, length-take-le}
-use Rattle.orders.specs.declared.order.Order.{Order}
+use Rattle.sheet.proofs.Words.{Order, Shown, shows, head_words, lines_of, order_words, bytes_of, sheet_of, Writable, Fault, in_head, crowded, in_order, behind, HeadFault, spoiled, packed, HeadTook, Filled, Stopped}
 use Rattle.sheet.specs.declared.read.Reading.{Reading}
-use Rattle.sheet.specs.Fault.{Shown, shows}
-use Rattle.sheet.specs.Form.{head_words, lines_of, order_words, bytes_of, sheet_of, Writable}
-use Rattle.sheet.specs.FirstFault.{Fault, in_head, crowded, in_order, behind}
-use Rattle.sheet.specs.Steps.{HeadFault, spoiled, packed, HeadTook, Filled, Stopped}
 use Rattle.sheet.specs.Read.{Given, Refused}
 use Rattle.sheet.proofs.Walks.{both, bytes_append}
 

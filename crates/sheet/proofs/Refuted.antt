@@ -3,10 +3,7 @@ use Rattle.std.proofs.Common.{◌≡◌, ℕ, ◌+◌, cond, eqb, ◌⊎◌, Lis
 use Rattle.std.specs.List.{AllByRecursion}
 use Rattle.std.proofs.lemmas.List.{append_cancel_left, append-nil}
 use Rattle.std.proofs.lemmas.Bool.{false≢true}
-use Rattle.sheet.specs.Fault.{Shown}
-use Rattle.sheet.specs.Word.{word_of, closed}
-use Rattle.sheet.specs.Form.{Placed, bytes_of, lines_in}
-use Rattle.sheet.specs.FirstFault.{formed, above, Fails, ended, misformed, excessive, cut, parted, Fault}
+use Rattle.sheet.proofs.Words.{Shown, word_of, closed, Placed, bytes_of, lines_in, formed, above, Fails, ended, misformed, excessive, cut, parted, Fault}
 use Rattle.sheet.proofs.Unique.{Good, word_alone, word_closed, heads, unique}
 use Rattle.sheet.proofs.Admitted.{Admitted}
 

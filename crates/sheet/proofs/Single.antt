@@ -4,14 +4,8 @@ use Rattle.std.specs.List.{AllByRecursion}
 use Rattle.std.proofs.lemmas.Fmt.{decimal_injective, decimal_nonempty}
 use Rattle.std.proofs.lemmas.List.{length-take-le}
 use Rattle.std.proofs.lemmas.Bool.{false≢true}
-use Rattle.orders.specs.declared.order.Order.{Order}
-use Rattle.sheet.specs.declared.fault.SheetFault.{SheetFault}
+use Rattle.sheet.proofs.Words.{Order, SheetFault, Shown, shows, shown, word_of, numeral, amount, orders_max, placed, number, number_words, head_words, order_words, lines_of, bytes_of, FineOrder, Fails, ended, misformed, excessive, cut, parted, Fault, InHead, Crowded, InOrder, Behind, FirstFault, in_head, crowded, in_order, behind}
 use Rattle.sheet.specs.declared.read.Reading.{Reading}
-use Rattle.sheet.specs.Fault.{Shown, shows, shown}
-use Rattle.sheet.specs.Word.{word_of, numeral, amount}
-use Rattle.settings.specs.Limits.{orders_max}
-use Rattle.sheet.specs.Form.{placed, number, number_words, head_words, order_words, lines_of, bytes_of, FineOrder}
-use Rattle.sheet.specs.FirstFault.{Fails, ended, misformed, excessive, cut, parted, Fault, InHead, Crowded, InOrder, Behind, FirstFault, in_head, crowded, in_order, behind}
 use Rattle.sheet.specs.Read.{Outcome, RefusedAs}
 use Rattle.sheet.proofs.Unique.{word_alone, word_closed, peel}
 use Rattle.sheet.proofs.Admitted.{head_admitted, order_admitted, number_admitted}

@@ -3,8 +3,7 @@ use Rattle.std.proofs.Common.{◌≡◌, ℕ, suc, ◌+◌, true, false, List, [
 use Rattle.std.specs.List.{prefix_len, AllByRecursion}
 use Rattle.std.proofs.lemmas.List.{append_cancel_left}
 use Rattle.std.proofs.lemmas.Bool.{cond-true, cond-false}
-use Rattle.sheet.specs.Word.{in_word, word_of, closed}
-use Rattle.sheet.specs.Form.{Placed, bytes_of}
+use Rattle.sheet.proofs.Words.{in_word, word_of, closed, Placed, bytes_of}
 
 -- no separator in the word
 abbrev pub Plain : List ℕ → Type 0

@@ -3,11 +3,7 @@ use Rattle.std.proofs.Common.{◌≡◌, ℕ, ◌+◌, Bool, true, false, cond, 
 use Rattle.std.specs.List.{AllByRecursion}
 use Rattle.std.proofs.lemmas.List.{nil_from_length}
 use Rattle.std.proofs.lemmas.Bool.{false≢true, eq-eqb, ne_eqb, and_parts, or_cases, or_left, or_right}
-use Rattle.sheet.specs.Fault.{Shown, shows}
-use Rattle.sheet.specs.Word.{word_of, numeral, negated, amount}
-use Rattle.settings.specs.Limits.{number_max}
-use Rattle.sheet.specs.Form.{Due, fixed, number, value, kind, Placed}
-use Rattle.sheet.specs.FirstFault.{formed, above, Fails, ended, misformed, excessive, cut, parted, Fault}
+use Rattle.sheet.proofs.Words.{Shown, shows, word_of, numeral, negated, amount, number_max, Due, fixed, number, value, kind, Placed, formed, above, Fails, ended, misformed, excessive, cut, parted, Fault}
 use Rattle.sheet.proofs.Unique.{word_alone, unique}
 use Rattle.sheet.proofs.Admitted.{Admitted}
 use Rattle.sheet.proofs.Refuted.{Match, Matches, view, no_place, fails_refuted}

@@ -1,11 +1,7 @@
 -- Steps one after another: words that are taken, and a fault behind them.
 use Rattle.std.proofs.Common.{◌≡◌, ℕ, ◌+◌, ◌<◌, List, [], ◌∷◌, ◌++◌, length, sym, refl, ap, ◌∙◌, subst, append_assoc, add-zero, arith}
 use Rattle.std.proofs.lemmas.List.{append-nil}
-use Rattle.sheet.specs.Fault.{Shown, shows}
-use Rattle.sheet.specs.Word.{word_of, closed}
-use Rattle.sheet.specs.Form.{Due, Placed, placed, bytes_of, lines_in}
-use Rattle.sheet.specs.FirstFault.{formed, above, Fails, ended, misformed, excessive, cut, parted, Fault}
-use Rattle.sheet.specs.Steps.{Closed, Unclosed, broken, swapped, Unfit, unformed, unbounded, Took}
+use Rattle.sheet.proofs.Words.{Shown, shows, word_of, closed, Due, Placed, placed, bytes_of, lines_in, formed, above, Fails, ended, misformed, excessive, cut, parted, Fault, Closed, Unclosed, broken, swapped, Unfit, unformed, unbounded, Took}
 
 pub bytes_append : (ps qs : List Placed) → bytes_of (ps ++ qs) ≡ bytes_of ps ++ bytes_of qs
 bytes_append [] qs = refl

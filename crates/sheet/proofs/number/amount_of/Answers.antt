@@ -4,7 +4,7 @@ use Rattle.std.specs.Result.{OkIff}
 use Rattle.std.specs.Str.{IsUtf8}
 use Rattle.std.proofs.lemmas.Grind.{common_steps}
 use Rattle.std.proofs.lemmas.Str.Parse.{parse_digits}
-use Rattle.sheet.specs.Word.{amount}
+use Rattle.sheet.proofs.Words.{amount}
 use Rattle.sheet.proofs.Numbers.{own, numeral_parts, numeral_utf8}
 use Rattle.sheet.proofs.number.amount_of.Goals as goal
 

@@ -1,5 +1,5 @@
 use Rattle.std.proofs.Common.{refl}
-use Rattle.sheet.specs.Steps.{unplaced}
+use Rattle.sheet.proofs.Words.{unplaced}
 use Rattle.sheet.proofs.number.count_in.Goals as goal
 
 pub returns-then-count-places : goal.returns-then-count-places

@@ -1,6 +1,6 @@
 use Rattle.std.proofs.Common.{arith}
 use Rattle.std.proofs.lemmas.Result.{MatchResult-weaker}
-use Rattle.sheet.specs.Steps.{unbounded}
+use Rattle.sheet.proofs.Words.{unbounded}
 use Rattle.sheet.proofs.Numbers.{counts, excess}
 use Rattle.sheet.proofs.number.number_in.Goals as goal
 

@@ -2,7 +2,7 @@ use Rattle.std.proofs.Common.{arith, rules, tests}
 use Rattle.std.proofs.lemmas.Bool.Decides.{nat_tests}
 use Rattle.std.proofs.lemmas.Iterator.{YieldsList-from_slice}
 use Rattle.std.proofs.lemmas.Iterator.Search.{all_from_yields_List}
-use Rattle.sheet.specs.Word.{is_digit}
+use Rattle.sheet.proofs.Words.{is_digit}
 use Rattle.sheet.proofs.word.is_numeral.Goals as goal
 
 pub returns-in_default : goal.returns-in_default

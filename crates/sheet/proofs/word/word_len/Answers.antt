@@ -5,7 +5,7 @@ use Rattle.std.proofs.lemmas.Iterator.{YieldsList-from_slice}
 use Rattle.std.proofs.lemmas.Iterator.Search.{position_from_yields_List}
 use Rattle.std.proofs.lemmas.List.Sums.{prefix_len-le-length}
 use Rattle.std.proofs.lemmas.List.Recursion.{is_position_or_len}
-use Rattle.sheet.specs.Word.{in_word}
+use Rattle.sheet.proofs.Words.{in_word}
 use Rattle.sheet.proofs.word.word_len.Goals as goal
 
 abbrev ends : ℕ → Bool

@@ -1,6 +1,6 @@
 use Rattle.std.proofs.Common.{◌≡◌, ◌∷◌, ◌++◌, sym, refl, arith}
 use Rattle.std.proofs.lemmas.Grind.{common_steps}
-use Rattle.sheet.specs.Steps.{swapped}
+use Rattle.sheet.proofs.Words.{swapped}
 use Rattle.sheet.proofs.cursor.Cursor.close.Goals as goal
 
 pub returns-in-Some-2 : goal.returns-in-Some-2

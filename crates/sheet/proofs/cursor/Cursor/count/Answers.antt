@@ -1,9 +1,6 @@
 use Rattle.std.proofs.Common.{[], arith, rules}
 use Rattle.std.proofs.lemmas.Result.{err_from_is_err_and, MatchResult-weaker}
-use Rattle.settings.specs.Limits.{orders_max}
-use Rattle.sheet.specs.Form.{number_words, orders_words}
-use Rattle.sheet.specs.Fault.{shown}
-use Rattle.sheet.specs.Steps.{wrong}
+use Rattle.sheet.proofs.Words.{orders_max, number_words, orders_words, shown, wrong}
 use Rattle.sheet.proofs.Counting.{miscounted_after}
 use Rattle.sheet.proofs.Fields.{counted}
 use Rattle.sheet.proofs.Walks.{longer, both}

@@ -1,5 +1,5 @@
 use Rattle.std.proofs.lemmas.Result.{err_from_is_err_and}
-use Rattle.sheet.specs.Steps.{refused, unclosed}
+use Rattle.sheet.proofs.Words.{refused, unclosed}
 use Rattle.sheet.proofs.cursor.Cursor.field.Goals as goal
 
 pub returns-in_err-value : goal.returns-in_err-value

@@ -1,8 +1,7 @@
 use Rattle.std.proofs.Common.{◌≡◌, length, take, pos, arith}
 use Rattle.std.proofs.lemmas.List.{set-get_or, length-take-le}
 use Rattle.std.proofs.lemmas.Result.{err_from_is_err_and}
-use Rattle.orders.specs.declared.order.Order.TheVariants.{Write}
-use Rattle.sheet.specs.Fault.{shown}
+use Rattle.sheet.proofs.Words.{Write, shown}
 use Rattle.sheet.proofs.Filling.{filled_more, stopped}
 use Rattle.sheet.proofs.cursor.Cursor.fill.Goals as goal
 

@@ -1,6 +1,6 @@
 -- The orders before the place are taken and filled.
 use Rattle.std.proofs.Common.{take}
-use Rattle.sheet.specs.Steps.{Filled}
+use Rattle.sheet.proofs.Words.{Filled}
 use Rattle.sheet.proofs.cursor.Cursor.fill.Given as goal
 
 abbrev pub invariant-loop-place : goal.invariant-loop-place

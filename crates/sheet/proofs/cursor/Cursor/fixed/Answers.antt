@@ -1,5 +1,5 @@
 use Rattle.std.proofs.Common.{rules}
-use Rattle.sheet.specs.Form.{fixed}
+use Rattle.sheet.proofs.Words.{fixed}
 use Rattle.sheet.proofs.Fields.{stepped}
 use Rattle.sheet.proofs.cursor.Cursor.fixed.Goals as goal
 

@@ -1,5 +1,5 @@
 use Rattle.std.proofs.lemmas.Result.{err_from_is_err_and}
-use Rattle.sheet.specs.Fault.{shown}
+use Rattle.sheet.proofs.Words.{shown}
 use Rattle.sheet.proofs.Heads.{title_fault, settings_fault, count_fault}
 use Rattle.sheet.proofs.cursor.Cursor.head.Goals as goal
 

@@ -1,9 +1,8 @@
 -- A fault where no kind is known is one at the word of any kind; carry is taken.
 use Rattle.std.proofs.lemmas.Result.{err_from_is_err_and}
 use Rattle.sheet.specs.declared.kind.Kind.TheVariants.{Carry}
-use Rattle.sheet.specs.Form.{placed, kind}
+use Rattle.sheet.proofs.Words.{placed, kind, shown}
 use Rattle.sheet.specs.Kind.{word_for, separator_for}
-use Rattle.sheet.specs.Fault.{shown}
 use Rattle.sheet.proofs.Walks.{missed_ended, missed_unfit, missed_unclosed}
 use Rattle.sheet.proofs.cursor.Cursor.kind.Goals as goal
 

@@ -1,5 +1,5 @@
 use Rattle.std.proofs.Common.{◌≤◌, decimal, arith, rules}
-use Rattle.sheet.specs.Form.{number}
+use Rattle.sheet.proofs.Words.{number}
 use Rattle.sheet.proofs.Fields.{stepped}
 use Rattle.sheet.proofs.cursor.Cursor.number.Goals as goal
 

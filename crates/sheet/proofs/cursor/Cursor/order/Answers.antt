@@ -1,10 +1,7 @@
 -- A fault at the word of the kind is one in the line of some order of that kind.
 use Rattle.std.proofs.Common.{List, sym, subst}
 use Rattle.std.proofs.lemmas.Result.{err_from_is_err_and, MatchResult-weaker}
-use Rattle.sheet.specs.Form.{Placed, about_words}
-use Rattle.sheet.specs.FirstFault.{Fault}
-use Rattle.sheet.specs.Fault.{shown}
-use Rattle.sheet.specs.Steps.{Took}
+use Rattle.sheet.proofs.Words.{Placed, about_words, Fault, shown, Took}
 use Rattle.sheet.proofs.OrderLines.{sample, sample_fits, line_of_kind}
 use Rattle.sheet.proofs.Walks.{later, longer, both}
 use Rattle.sheet.proofs.cursor.Cursor.order.Goals as goal

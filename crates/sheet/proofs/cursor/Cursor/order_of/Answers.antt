@@ -1,7 +1,7 @@
 use Rattle.std.proofs.Common.{refl, rules}
 use Rattle.orders.specs.declared.order.Order.TheVariants as order
 use Rattle.sheet.specs.declared.kind.Kind.TheVariants.{Write, Read, Tell, ReplicaOut, ClientOut}
-use Rattle.sheet.specs.Form.{SmallValue, SmallNumber}
+use Rattle.sheet.proofs.Words.{SmallValue, SmallNumber}
 use Rattle.sheet.proofs.OrderLines.{about}
 use Rattle.sheet.proofs.cursor.Cursor.order_of.Goals as goal
 

@@ -1,8 +1,7 @@
 -- A fault at one of the five words: those before it were taken, and those behind it may be any, so zeros are taken.
 use Rattle.std.proofs.Common.{◌++◌, pos, arith}
 use Rattle.std.proofs.lemmas.Result.{err_from_is_err_and}
-use Rattle.settings.specs.Limits.{number_max}
-use Rattle.sheet.specs.Form.{number_words, value_words}
+use Rattle.sheet.proofs.Words.{number_max, number_words, value_words}
 use Rattle.sheet.proofs.Walks.{later, longer}
 use Rattle.sheet.proofs.cursor.Cursor.settings.Goals as goal
 

@@ -1,6 +1,6 @@
 use Rattle.std.proofs.Common.{codes}
 use Rattle.std.proofs.lemmas.Result.{err_from_is_err_and, MatchResult-weaker}
-use Rattle.sheet.specs.Form.{fixed_words}
+use Rattle.sheet.proofs.Words.{fixed_words}
 use Rattle.sheet.proofs.Walks.{later, longer, both}
 use Rattle.sheet.proofs.cursor.Cursor.title.Goals as goal
 

@@ -1,6 +1,6 @@
 use Rattle.std.proofs.Common.{pos, arith, rules}
 use Rattle.std.specs.Fmt.{signed_decimal}
-use Rattle.sheet.specs.Form.{value, SmallValue}
+use Rattle.sheet.proofs.Words.{value, SmallValue}
 use Rattle.sheet.proofs.Fields.{stepped}
 use Rattle.sheet.proofs.cursor.Cursor.value.Goals as goal
 

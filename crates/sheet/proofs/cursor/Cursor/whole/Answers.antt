@@ -1,6 +1,6 @@
 use Rattle.std.proofs.Common.{refl, Ok, Err}
 use Rattle.std.proofs.lemmas.Result.{err_from_is_err_and}
-use Rattle.sheet.specs.Fault.{shown}
+use Rattle.sheet.proofs.Words.{shown}
 use Rattle.sheet.proofs.Exact.{exactly}
 use Rattle.sheet.proofs.Outcomes.{refused_head, refused_fill, refused_behind, given_all}
 use Rattle.sheet.proofs.Single.{only}

@@ -3,7 +3,7 @@ use Rattle.std.proofs.Common.{false, ◌++◌, is_ok, decimal, arith, w32, SFits
 use Rattle.std.specs.Fmt.{signed_decimal}
 use Rattle.std.proofs.lemmas.Int.{to_z-of_z}
 use Rattle.std.proofs.lemmas.Result.{err_from_is_err_and}
-use Rattle.sheet.specs.Word.{closed}
+use Rattle.sheet.proofs.Words.{closed}
 use Rattle.sheet.proofs.Lines.{then_more, none_more}
 use Rattle.sheet.proofs.page.Position.line.Goals as goal
 

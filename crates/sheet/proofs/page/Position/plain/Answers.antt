@@ -1,7 +1,7 @@
 use Rattle.std.proofs.Common.{false, ◌++◌, is_ok, decimal, arith}
 use Rattle.std.proofs.lemmas.Result.{err_from_is_err_and}
 use Rattle.sheet.specs.Listing.{end_of, plain_answer}
-use Rattle.sheet.specs.Word.{closed}
+use Rattle.sheet.proofs.Words.{closed}
 use Rattle.sheet.proofs.Digits.{short_who, long_who, no_more}
 use Rattle.sheet.proofs.Lines.{then_more, none_more}
 use Rattle.sheet.proofs.page.Position.plain.Goals as goal
