@@ -1,5 +1,5 @@
 -- What the delaying layer keeps back, where it puts a message, and what it gives.
-use Rattle.std.specs.Prelude.{◌≡◌, ℕ, ◌<◌, Bool, true, false, ◌&&◌, ◌⊎◌, List, [], ◌∷◌, ◌++◌, length, ◌+◌, ◌-◌, Some, Ok, Err, Option, Result, ◌==◌, nat_le, nat_lt}
+use Rattle.std.specs.Prelude.{◌≡◌, ℕ, ◌<◌, Bool, true, false, ◌&&◌, ◌⊎◌, List, [], ◌∷◌, ◌++◌, length, ◌+◌, ◌-◌, Some, Ok, Err, Option, Result, ◌==◌, nat_lt}
 use Rattle.std.specs.List.Sorted.{IsPermutation}
 use Rattle.wire.specs.declared.message.Message.{Message}
 use Rattle.wire.specs.Kind.{is_request}

@@ -18,19 +18,17 @@ use Rattle.client.specs.Client.{in_phase}
 
 -- the kind of reply that a phase awaits; 0 for none
 abbrev pub awaited : Phase → ℕ
-awaited Idle = 0
 awaited (Writing rs) = 4
 awaited (Asking rs) = 5
-awaited Due = 0
 awaited (Telling rs) = 6
+awaited _ = 0
 
 -- the reply's replica has not been counted
 abbrev pub uncounted : Phase → Message → Bool
-uncounted Idle m = false
 uncounted (Writing rs) m = adds (λ x. x.replica) rs.slips rs.got (receipt_of m)
 uncounted (Asking rs) m = adds (λ x. x.replica) rs.slips rs.got (reading_of m)
-uncounted Due m = false
 uncounted (Telling rs) m = adds (λ x. x.replica) rs.slips rs.got (receipt_of m)
+uncounted _ m = false
 
 -- A reply counts if its client awaits that kind in that round and its replica has not been counted.
 abbrev pub counts : Client → Message → Bool
@@ -38,27 +36,24 @@ counts c m = m.round == c.round && (m.kind == awaited c.phase && uncounted c.pha
 
 -- with the reply counted
 abbrev pub joined : Phase → Message → Phase
-joined Idle m = Idle
 joined (Writing rs) m = Writing (with_receipt rs (receipt_of m))
 joined (Asking rs) m = Asking (with_reading rs (reading_of m))
-joined Due m = Due
 joined (Telling rs) m = Telling (with_receipt rs (receipt_of m))
+joined p m = p
 
 -- how many replies are counted
 abbrev pub tallied : Phase → ℕ
-tallied Idle = 0
 tallied (Writing rs) = rs.got
 tallied (Asking rs) = rs.got
-tallied Due = 0
 tallied (Telling rs) = rs.got
+tallied _ = 0
 
 -- how many complete the round: S - t for a write or a read, 2t + 1 for a tell
 abbrev pub quorum_of : Checked → Phase → ℕ
-quorum_of k Idle = 0
 quorum_of k (Writing rs) = k.replicas - k.tolerated
 quorum_of k (Asking rs) = k.replicas - k.tolerated
-quorum_of k Due = 0
 quorum_of k (Telling rs) = 2 * k.tolerated + 1
+quorum_of k _ = 0
 
 -- a client that knows what a first round decided
 abbrev pub knowing : Client → Decided → Phase → Client
@@ -71,11 +66,10 @@ phase_by Previous = Idle
 
 -- the client after its round is complete
 abbrev pub completed_in : Checked → Client → Phase → Client
-completed_in k c Idle = c
 completed_in k c (Writing rs) = in_phase c Idle
 completed_in k c (Asking rs) = let d = decided k (take rs.got rs.slips) in knowing c d (phase_by d.verdict)
-completed_in k c Due = c
 completed_in k c (Telling rs) = in_phase c Idle
+completed_in k c _ = c
 
 abbrev pub completed : Checked → Client → Client
 completed k c = completed_in k c c.phase
@@ -92,11 +86,10 @@ shown_by Previous who d = ended_as who (d.version - 1) d.previous 1
 
 -- what is answered when a round is complete
 abbrev pub completion_in : Checked → ℕ → Client → Phase → Answer
-completion_in k who c Idle = Ignored who
 completion_in k who c (Writing rs) = ended_as who c.version c.value 1
 completion_in k who c (Asking rs) = let d = decided k (take rs.got rs.slips) in shown_by d.verdict who d
-completion_in k who c Due = Ignored who
 completion_in k who c (Telling rs) = ended_as who c.version c.value 2
+completion_in k who c _ = Ignored who
 
 abbrev pub completion : Checked → ℕ → Client → Answer
 completion k who c = completion_in k who c c.phase

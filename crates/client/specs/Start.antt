@@ -1,5 +1,5 @@
 -- A client that starts a round, and what it puts out.
-use Rattle.std.specs.Prelude.{ℕ, ◌+◌, ◌*◌, min, cond, ℤ, ◌==◌}
+use Rattle.std.specs.Prelude.{ℕ, ◌+◌, ◌*◌, min, cond, ◌==◌}
 use Rattle.wire.specs.declared.message.Message.{Message}
 use Rattle.orders.specs.declared.order.Order.{Order}
 use Rattle.orders.specs.declared.order.Order.TheVariants.{Write, Read, Tell}

@@ -1,9 +1,8 @@
 -- Concrete pasts: every list of moves is a past, and five of them give the answers expected.
-use Rattle.std.proofs.Common.{◌≡◌, ℕ, zero, suc, ◌≤◌, leb, List, [], ◌∷◌, ◌++◌, map, length, ℤ, Some, None, Option, refl, subst, inl, inr, append_assoc, arith, lit≤}
+use Rattle.std.proofs.Common.{◌≡◌, ℕ, zero, suc, ◌≤◌, List, [], ◌∷◌, ◌++◌, map, length, Some, None, Option, refl, subst, inl, inr, append_assoc, arith, lit≤}
 use mathlib.Core.Path.{subst⁻¹}
 use Rattle.std.specs.List.Sorted.{IsPermutation}
 use Rattle.std.proofs.lemmas.List.{append-nil}
-use Rattle.std.proofs.lemmas.Bool.{leb-true}
 use Rattle.std.proofs.lemmas.List.Sorted.{IsPermutation-refl, IsPermutation-cons, IsPermutation-trans, IsPermutation-middle, IsPermutation-append_comm}
 use Rattle.std.specs.Option.{option_to_list}
 use Rattle.wire.specs.declared.message.Message.{Message}

@@ -1,5 +1,5 @@
 -- What an accepted call does to a register, and what it puts into the channel.
-use Rattle.std.specs.Prelude.{ℕ, ◌+◌, true, List, [], ℤ, Some, None, Option, slice_set}
+use Rattle.std.specs.Prelude.{ℕ, ◌+◌, true, List, [], Some, None, Option, slice_set}
 use Rattle.wire.specs.declared.message.Message.{Message}
 use Rattle.orders.specs.declared.order.Order.{Order}
 use Rattle.orders.specs.declared.order.Order.TheVariants.{Write, Read, Tell, Carry, ReplicaOut, ClientOut}

@@ -1,5 +1,5 @@
 -- A session: a register is opened, a list of orders done, and the laws kept.
-use Rattle.std.specs.Prelude.{ℕ, List, length, take, drop, ◌≡◌, ◌<◌, ◌≤◌, ◌⊎◌, Some, None}
+use Rattle.std.specs.Prelude.{ℕ, List, length, ◌≡◌, ◌<◌, ◌⊎◌, Some, None}
 use Rattle.wire.specs.Channel.{Contents}
 use Rattle.settings.specs.declared.given.Settings.{Settings}
 use Rattle.orders.specs.declared.order.Order.{Order}

@@ -1,5 +1,5 @@
 -- A message that is taken from the channel: it is never stray, and one that does nothing is lost in the model too. It ends in `lost_reaches`.
-use Rattle.std.proofs.Common.{◌≡◌, ◌≤◌, true, false, ltb, leb, ◌⊎◌, not, ◌||◌, List, [], ◌∷◌, ◌++◌, map, Option, sym, refl, ap, ◌∙◌, subst, arith}
+use Rattle.std.proofs.Common.{◌≡◌, ◌≤◌, true, false, leb, ◌⊎◌, not, ◌||◌, List, [], ◌∷◌, ◌++◌, map, Option, sym, refl, ap, ◌∙◌, subst, arith}
 use Rattle.std.specs.Option.{option_to_list}
 use Rattle.std.specs.List.{AllByRecursion}
 use Rattle.std.specs.List.Sorted.{IsPermutation}

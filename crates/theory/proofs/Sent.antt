@@ -3,7 +3,7 @@ use Rattle.std.proofs.Common.{◌≡◌, ℕ, zero, suc, ◌+◌, ◌*◌, ◌�
 use Rattle.std.specs.List.{AllByRecursion}
 use Rattle.std.proofs.lemmas.List.Sums.{sum_by_push}
 use Rattle.std.proofs.lemmas.Bool.Decides.{nat_tests}
-use Rattle.std.proofs.lemmas.Bool.{cases_Bool, cond_both, lt-leb, and_left, or_parts, ltb-false, eqb-true, eqb-false, eq-eqb, ne_eqb}
+use Rattle.std.proofs.lemmas.Bool.{cases_Bool, cond_both, lt-leb, and_left, or_parts, eqb-true, eqb-false, eq-eqb, ne_eqb}
 use Rattle.std.specs.Option.{option_to_list}
 use Rattle.theory.proofs.Words.{Message, Order, Write, Read, Tell, Carry, ReplicaOut, ClientOut, Refusal, Unknown, Answer, Refused, listed_as, number_of, Row, record_of, Checked, Register, opened, row_at, client_at, is_request, is_stray, is_lost, handled_reply, World, world, Answered, Called, sent_by, sent_in, empty, Entry, Step, Past, start, more, code, own_messages}
 use Rattle.replica.specs.Replica.{replied, reply_from, fresh}
