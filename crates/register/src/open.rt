@@ -1,7 +1,8 @@
 //! Opening a register: the check, which alone may refuse, then at once the making.
-ghost use Rattle.std.specs.Prelude.{◌≡◌};
+ghost use Rattle.std.specs.Prelude.{◌≡◌, IfOk};
+ghost use Rattle.settings.specs.Checked.{given};
 ghost use Rattle.settings.specs.Fault.{FailsBy};
-ghost use Rattle.register.specs.Open.{channel_fault, Opening};
+ghost use Rattle.register.specs.Open.{channel_fault, opening_fault, Opening};
 ghost use Rattle.register.specs.Register.{opened};
 
 use crate::fault::{ChannelFault, RegisterFault};
@@ -25,6 +26,16 @@ fn check_channel<C: Channel>(c: &C, replicas: u32) -> Result<(), ChannelFault>
     Ok(())
 }
 
+// Settings that passed, over a channel that is fit, or the first fault.
+fn check<C: Channel>(s: Settings, c: &C) -> Result<Checked, RegisterFault>
+    ensures fault { FailsBy result (opening_fault s (C.contents c.now)) }
+    ensures given { IfOk result (λ k. given k ≡ s) }
+{
+    let settings = Checked::try_from(s)?;
+    check_channel(c, s.replicas)?;
+    Ok(settings)
+}
+
 // The register of settings that passed.
 fn make(settings: Checked) -> Register
     ensures { result ≡ opened settings }
@@ -45,8 +56,7 @@ impl Register {
     pub fn open<C: Channel>(s: Settings, c: &C) -> Result<Register, RegisterFault>
         ensures { Opening s (C.contents c.now) result }
     {
-        let settings = Checked::try_from(s)?;
-        check_channel(c, s.replicas)?;
+        let settings = check(s, c)?;
         Ok(make(settings))
     }
 }
