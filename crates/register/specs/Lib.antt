@@ -7,3 +7,4 @@ pub mod Open
 pub mod World
 pub mod Past
 pub mod Register
+pub mod Session

@@ -11,6 +11,7 @@ mod refuse;
 pub mod register;
 mod run;
 mod send;
+pub mod session;
 mod settle;
 
 pub use crate::fault::{ChannelFault, RegisterFault};

@@ -27,7 +27,7 @@ fn check_channel<C: Channel>(c: &C, replicas: u32) -> Result<(), ChannelFault>
 }
 
 // Settings that passed, over a channel that is fit, or the first fault.
-fn check<C: Channel>(s: Settings, c: &C) -> Result<Checked, RegisterFault>
+pub(crate) fn check<C: Channel>(s: Settings, c: &C) -> Result<Checked, RegisterFault>
     ensures fault { FailsBy result (opening_fault s (C.contents c.now)) }
     ensures given { IfOk result (λ k. given k ≡ s) }
 {
@@ -37,7 +37,7 @@ fn check<C: Channel>(s: Settings, c: &C) -> Result<Checked, RegisterFault>
 }
 
 // The register of settings that passed.
-fn make(settings: Checked) -> Register
+pub(crate) fn make(settings: Checked) -> Register
     ensures { result ≡ opened settings }
 {
     let row = Row::open(settings.initial);

@@ -5,7 +5,8 @@ use Rattle.settings.specs.declared.given.Settings.{Settings}
 use Rattle.register.specs.declared.register.Register.{Register}
 use Rattle.register.specs.declared.fault.RegisterFault.{RegisterFault}
 use Rattle.register.specs.World.{world}
-use Rattle.session.specs.Perform.{NoSession, LawfulSession}
+use Rattle.register.specs.Session.{NoSession}
+use Rattle.session.specs.Perform.{LawfulSession}
 use Rattle.orders.specs.declared.order.Order.{Order}
 use Rattle.orders.specs.declared.answer.Answer.{Answer}
 use Rattle.sheet.specs.declared.page.Position.{Position}

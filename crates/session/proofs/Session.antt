@@ -1,5 +1,5 @@
 -- A session keeps the laws.
-use Rattle.std.proofs.Common.{◌≡◌, ℕ, ◌≤◌, List, [], length, Some, None, Option, refl, ap, subst, arith}
+use Rattle.std.proofs.Common.{◌≡◌, ℕ, ◌≤◌, List, [], length, Some, None, Ok, Err, Option, Result, IfOk, refl, ap, subst, arith}
 use Rattle.std.proofs.lemmas.List.{nil_from_length}
 use Rattle.std.proofs.lemmas.Bool.Decides.{nat_tests}
 use Rattle.wire.specs.declared.message.Message.{Message}
@@ -7,6 +7,7 @@ use Rattle.wire.specs.Channel.{Contents, holding}
 use Rattle.settings.specs.declared.given.Settings.{Settings}
 use Rattle.orders.specs.declared.order.Order.{Order}
 use Rattle.orders.specs.declared.answer.Answer.{Answer}
+use Rattle.register.specs.declared.register.Register.{Register}
 use Rattle.register.specs.declared.fault.ChannelFault.{ChannelFault}
 use Rattle.register.specs.declared.fault.RegisterFault.{RegisterFault}
 use Rattle.register.specs.declared.fault.RegisterFault.TheVariants.{Channel as OfChannel}
@@ -15,8 +16,8 @@ use Rattle.register.specs.Register.{opened}
 use Rattle.register.specs.Open.{channel_fault}
 use Rattle.register.specs.World.{World, world}
 use Rattle.register.specs.Past.{Past}
-use Rattle.session.specs.Perform.{Session}
-use Rattle.session.specs.Perform.{LawfulSession}
+use Rattle.register.specs.Session.{Session, OpenedAndRan}
+use Rattle.session.specs.Perform.{LawfulSession, Done}
 use Rattle.theory.proofs.Stands.{laws}
 
 channel_fine : (x : Contents) (replicas : ℕ) → channel_fault x replicas ≡ None → (x.waiting ≡ []) × (replicas ≤ x.free)
@@ -41,3 +42,9 @@ session_lawful s x os rs w h =
       session = h;
       lawful = laws h.settings x.free room h.ran.entries w (subst (λ (l : List Message). Past (world (opened h.settings) (holding l x.free)) h.ran.entries w) fine.0 h.ran.past);
     }
+
+-- what is said of a session that was done, if one was
+pub done : (r : Result Register RegisterFault) (s : Settings) (x : Contents) (os : List Order) (before after : List Answer) (y : Contents)
+    → IfOk r (OpenedAndRan s x os before after y) → IfOk r (Done s x os before after y)
+done (Ok q) s x os before after y h = record { said = session_lawful s x os _ _ h.said; later = h.later; enough = h.enough }
+done (Err e) s x os before after y h = tt

@@ -1,27 +1,14 @@
--- A session: a register is opened, a list of orders done, and the laws kept.
-use Rattle.std.specs.Prelude.{ℕ, List, length, ◌≡◌, ◌<◌, ◌⊎◌, Some, None}
+-- A session that keeps the laws.
+use Rattle.std.specs.Prelude.{List, length}
 use Rattle.wire.specs.Channel.{Contents}
 use Rattle.settings.specs.declared.given.Settings.{Settings}
 use Rattle.orders.specs.declared.order.Order.{Order}
 use Rattle.orders.specs.declared.answer.Answer.{Answer}
-use Rattle.register.specs.World.{World, world}
-use Rattle.laws.specs.Laws.{Lawful}
-use Rattle.settings.specs.declared.checked.Checked.{Checked}
 use Rattle.register.specs.declared.register.Register.{Register}
-use Rattle.register.specs.declared.fault.RegisterFault.{RegisterFault}
-use Rattle.register.specs.declared.fault.RegisterFault.TheVariants.{Answers}
-use Rattle.register.specs.Open.{opening_fault}
-use Rattle.settings.specs.Checked.{given}
-use Rattle.register.specs.Register.{opened}
-use Rattle.register.specs.Past.{Ran, Filled}
-
--- the settings were accepted over a channel with these messages and places, and the orders with their answers
--- are a past from the opening
-pub record Session (s : Settings) (x : Contents) (os : List Order) (rs : List Answer) (w : World) : Type 0 where
-  pub settings : Checked
-  pub accepted : opening_fault s x ≡ None
-  pub passed : given settings ≡ s
-  pub ran : Ran (world (opened settings) x) os rs w
+use Rattle.register.specs.World.{World, world}
+use Rattle.register.specs.Past.{Filled}
+use Rattle.register.specs.Session.{Session}
+use Rattle.laws.specs.Laws.{Lawful}
 
 -- the orders with their answers are a past of a register that was opened with these settings, and
 -- this past keeps the laws
@@ -29,21 +16,6 @@ pub record LawfulSession (s : Settings) (x : Contents) (os : List Order) (rs : L
   pub session : Session s x os rs w
   pub lawful : Lawful session.settings w.waiting session.ran.entries
 
--- it was not opened, or there were fewer answers than orders
-abbrev pub NoSession : Settings → Contents → ℕ → ℕ → RegisterFault → Type 0
-NoSession s x orders answers e =
-    (opening_fault s x ≡ Some e)
-    ⊎ ((opening_fault s x ≡ None) × (answers < orders) × (e ≡ Answers))
-
--- ---- the two outcomes
-
 -- the orders were done by the register r, which leaves the channel with y: their answers stand in the first places
 abbrev pub Done : Settings → Contents → List Order → List Answer → List Answer → Contents → Register → Type 0
 Done s x os before after y r = Filled (λ rs. LawfulSession s x os rs (world r y)) (length os) before after
-
--- nothing was done: answers and channel, c before and d after, are as they were
-pub record NotDone {C : Type 0} (s : Settings) (x : Contents) (os : List Order) (before after : List Answer) (c d : C)
-    (e : RegisterFault) : Type 0 where
-  pub fault : NoSession s x (length os) (length before) e
-  pub answers : after ≡ before
-  pub channel : d ≡ c
