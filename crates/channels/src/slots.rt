@@ -1,6 +1,6 @@
 //! The slot channel: a table of 256 slots of its own, which gives the lowest message.
-ghost use Rattle.std.specs.Prelude.{◌≡◌, ℕ, ◌<◌, ◌≤◌, [], length, None, MatchOption, slice_index_or};
-ghost use Rattle.channels.specs.Table.{gaps, lower, Unused, Found, pick};
+ghost use Rattle.std.specs.Prelude.{◌≡◌, ◌≤◌, [], length, IfNone};
+ghost use Rattle.channels.specs.Table.{somes, gaps, lower, Unused, Found, pick};
 
 use wire::channel::{Channel, Full};
 use wire::message::Message;
@@ -53,9 +53,11 @@ fn better(
 }
 
 // Where a lowest message lies, with that message.
+#[tactic(auto, using(crate::proofs::Slotted::none_held))]
 #[inline(always)]
 fn lowest(table: &[Option<Message>]) -> Option<(usize, Message)>
-    ensures { Found table.now (length table.now) result }
+    ensures found { Found table.now (length table.now) result }
+    ensures none { IfNone result (somes table.now ≡ []) }
 {
     let mut best: Option<(usize, Message)> = None;
     for (i, slot) in table.iter().enumerate() {
@@ -90,7 +92,7 @@ impl Channel for Slots {
     }
 
     /// It gives the lowest: none that waited is before it.
-    #[tactic(auto, using(crate::proofs::Slotted::none_held, crate::proofs::Slotted::freed_holds, crate::proofs::Slotted::freed_leaves))]
+    #[tactic(auto, using(crate::proofs::Slotted::freed_holds, crate::proofs::Slotted::freed_leaves))]
     fn take(&mut self) -> Option<Message>
         ensures meets { Taken (contents_of self.old) (contents_of self.new) result }
         ensures lowest { GivesLowest self.old result }

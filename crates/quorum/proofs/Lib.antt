@@ -2,6 +2,5 @@ pub mod From
 pub mod Digits
 pub mod Sets
 pub mod Agreements
-pub mod Decisions
 mod Searching
 pub mod Lowest

@@ -31,8 +31,8 @@ NoSession s x orders answers e =
 -- ---- the two outcomes
 
 -- the orders were done by the register r, which leaves the channel with y: their answers stand in the first places
-abbrev pub OpenedAndRan : Settings → Contents → List Order → List Answer → List Answer → Contents → Register → Type 0
-OpenedAndRan s x os before after y r = Filled (λ rs. Session s x os rs (world r y)) (length os) before after
+abbrev pub SessionRan : Settings → Contents → List Order → List Answer → List Answer → Contents → Register → Type 0
+SessionRan s x os before after y r = Filled (λ rs. Session s x os rs (world r y)) (length os) before after
 
 -- nothing was done: answers and channel, c before and d after, are as they were
 pub record NotDone {C : Type 0} (s : Settings) (x : Contents) (os : List Order) (before after : List Answer) (c d : C)

@@ -16,7 +16,7 @@ use Rattle.register.specs.Register.{opened}
 use Rattle.register.specs.Open.{channel_fault}
 use Rattle.register.specs.World.{World, world}
 use Rattle.register.specs.Past.{Past}
-use Rattle.register.specs.Session.{Session, OpenedAndRan}
+use Rattle.register.specs.Session.{Session, SessionRan}
 use Rattle.session.specs.Perform.{LawfulSession, Done}
 use Rattle.theory.proofs.Stands.{laws}
 
@@ -45,6 +45,6 @@ session_lawful s x os rs w h =
 
 -- what is said of a session that was done, if one was
 pub done : (r : Result Register RegisterFault) (s : Settings) (x : Contents) (os : List Order) (before after : List Answer) (y : Contents)
-    → IfOk r (OpenedAndRan s x os before after y) → IfOk r (Done s x os before after y)
+    → IfOk r (SessionRan s x os before after y) → IfOk r (Done s x os before after y)
 done (Ok q) s x os before after y h = record { said = session_lawful s x os _ _ h.said; later = h.later; enough = h.enough }
 done (Err e) s x os before after y h = tt
