@@ -21,7 +21,6 @@ pub enum Round {
 
 impl Round {
     /// The client that begins it: 0, the writer, or the reader.
-    #[inline(always)]
     pub fn client(self) -> u8
         ensures { result ≡ named (order_of self) }
     {
@@ -31,7 +30,6 @@ impl Round {
         }
     }
 
-    #[inline(always)]
     pub fn kind(self) -> Kind
         ensures { number_of result ≡ kind_of self }
     {
@@ -43,7 +41,6 @@ impl Round {
     }
 
     /// How many messages it puts out: one to each replica, or 3t + 1 of a tell.
-    #[inline(always)]
     pub fn count(self, k: &Checked) -> u8
         ensures { result ≡ set_size k.now (kind_of self) }
     {
@@ -56,7 +53,6 @@ impl Round {
 
 impl Client {
     /// One round more, in the phase that awaits its replies.
-    #[inline(always)]
     pub fn start(&mut self, round: Round)
         ensures { self.new ≡ started self.old round }
     {
@@ -74,7 +70,6 @@ impl Client {
     }
 
     /// A message of the client's present round.
-    #[inline(always)]
     pub fn message(&self, k: &Checked, kind: Kind, client: u8) -> Message
         ensures { result ≡ outgoing k.now (number_of kind) client self.now }
     {

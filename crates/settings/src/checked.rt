@@ -58,7 +58,6 @@ impl Checked {
     ghost use Rattle.settings.specs.Checked.{mark_of};
 
     /// The mark of a client: bit 0 for the writer, bit 1 + its group for a reader.
-    #[inline(always)]
     pub fn mark(&self, client: u8) -> u8
         ensures { result ≡ mark_of self.now client }
     {
