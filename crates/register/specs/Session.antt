@@ -14,7 +14,7 @@ use Rattle.register.specs.Register.{opened}
 use Rattle.register.specs.World.{World, world}
 use Rattle.register.specs.Past.{Ran, Filled}
 
--- the settings were accepted over a channel with these messages and places, and the orders with their answers
+-- the settings were accepted over a channel with these contents, and the orders with their answers
 -- are a past from the opening
 pub record Session (s : Settings) (x : Contents) (os : List Order) (rs : List Answer) (w : World) : Type 0 where
   pub settings : Checked

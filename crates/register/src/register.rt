@@ -43,7 +43,7 @@ impl Register {
         Some(self.clients[client as usize].phase)
     }
 
-    /// Is the replica withdrawn? No for a number that no replica has.
+    /// Is the replica withdrawn, as the table of 32 has it? No for a number past the table.
     pub fn is_out(&self, replica: u32) -> bool
         ensures { result ≡ is_out self.now replica }
     {

@@ -6,7 +6,7 @@ use Rattle.runner.specs.Drill.{Drills}
 use Rattle.runner.specs.Memory.{Memory, content}
 use Rattle.runner.specs.declared.memory.Memory.{Memory as Lent}
 
--- a drill over a channel with these messages and places, whatever is left in it then
+-- a drill over a channel with these contents, whatever is left in it then
 pub record Rehearsed (sheet : List ℕ) (x : Contents) (before after : Memory) (r : Result ℕ DrillFault) : Type 0 where
   pub left : Contents
   pub drills : Drills sheet x before left after r

@@ -5,7 +5,7 @@ use crate::fault::SettingsFault;
 use crate::given::Settings;
 use crate::range::{in_ranges, value_in_range};
 
-/// Made by the check alone: every value of this type keeps the ranges, and (V + 2)t is below S.
+/// Settings that passed: every value of this type keeps the ranges, and (V + 2)t is below S.
 #[derive(Debug, Clone, Copy, PartialEq, Eq)]
 pub struct Checked {
     /// S: how many replicas hold a copy, 4 to 32
