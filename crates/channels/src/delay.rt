@@ -1,7 +1,9 @@
-//! The delaying layer: over any channel, it keeps what goes to one replica back in a pocket of 64.
+//! The delaying layer: over any channel, it keeps what goes to one replica back in a pocket.
 ghost use Rattle.std.specs.Prelude.{◌≡◌, ◌≤◌, [], length};
 ghost use Rattle.wire.specs.Channel.{Put, Taken};
+ghost use Rattle.channels.specs.Sizes.{pocket_max};
 
+use crate::sizes::POCKET_MAX;
 use arrayvec::ArrayVec;
 use wire::channel::{Channel, Full};
 use wire::kind::Kind;
@@ -11,9 +13,9 @@ use wire::message::Message;
 #[derive(Drop)]
 pub struct Delay<C> {
     below: C,
-    pocket: ArrayVec<Message, 64>,
+    pocket: ArrayVec<Message, POCKET_MAX>,
     replica: u8,
-    ghost few: { length pocket.items ≤ 64 },
+    ghost few: { length pocket.items ≤ pocket_max },
 }
 
 impl<C> Delay<C> {
@@ -36,7 +38,7 @@ impl<C> Delay<C> {
     {
         Kind::try_from(m.kind).is_ok_and(|k| k.is_request())
             && m.replica == self.replica
-            && self.pocket.len() < 64
+            && self.pocket.len() < POCKET_MAX
     }
 }
 

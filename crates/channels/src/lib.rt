@@ -3,6 +3,7 @@
 
 pub mod delay;
 pub mod queue;
+pub mod sizes;
 pub mod slots;
 
 pub use crate::delay::Delay;

@@ -1,15 +1,17 @@
-//! The slot channel: a table of 256 slots of its own, which gives the lowest message.
+//! The slot channel: a table of slots of its own, which gives the lowest message.
 ghost use Rattle.std.specs.Prelude.{◌≡◌, ◌≤◌, [], length, IfNone};
+ghost use Rattle.channels.specs.Sizes.{slots_max};
 ghost use Rattle.channels.specs.Table.{somes, gaps, lower, Unused, Found, pick};
 
+use crate::sizes::SLOTS_MAX;
 use wire::channel::{Channel, Full};
 use wire::message::Message;
 
 /// Each slot holds a message or is unused.
 #[derive(Drop)]
 pub struct Slots {
-    table: [Option<Message>; 256],
-    ghost long: { length table ≡ 256 },
+    table: [Option<Message>; SLOTS_MAX],
+    ghost long: { length table ≡ slots_max },
 }
 
 // Does a come before b: by round, then replica, then client, then kind?
@@ -70,11 +72,11 @@ impl Slots {
     ghost use Rattle.wire.specs.Channel.{empty};
     ghost use Rattle.channels.specs.Slots.{contents_of};
 
-    /// Nothing waits, and 256 places are free.
+    /// Nothing waits, and every slot is a free place.
     pub fn new() -> Self
-        ensures { contents_of result ≡ empty 256 }
+        ensures { contents_of result ≡ empty slots_max }
     {
-        Slots { table: [None; 256] }
+        Slots { table: [None; SLOTS_MAX] }
     }
 }
 
@@ -104,7 +106,7 @@ impl Channel for Slots {
 
     #[tactic(auto, using(crate::proofs::Slotted::somes_gaps))]
     fn waiting(&self) -> u32 {
-        (256 - count_unused(&self.table)) as u32
+        (SLOTS_MAX - count_unused(&self.table)) as u32
     }
 
     fn free(&self) -> u32 {

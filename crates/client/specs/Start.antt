@@ -1,5 +1,6 @@
 -- A client that starts a round, and what it puts out.
 use Rattle.std.specs.Prelude.{ℕ, ◌+◌, ◌*◌, min, cond, ◌==◌}
+use Rattle.wire.specs.Channel.{word_max}
 use Rattle.wire.specs.declared.message.Message.{Message}
 use Rattle.orders.specs.declared.order.Order.{Order}
 use Rattle.orders.specs.declared.order.Order.TheVariants.{Write, Read, Tell}
@@ -28,7 +29,7 @@ outgoing k kind who c =
 
 -- One round more. 32 bits hold it in every register that was opened, so the bound never decides.
 abbrev pub raised : ℕ → ℕ
-raised n = min (n + 1) 4294967295
+raised n = min (n + 1) word_max
 
 abbrev pub order_of : Round → Order
 order_of (WriteRound z) = Write z

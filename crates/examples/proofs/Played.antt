@@ -55,7 +55,7 @@ fits v (Tell c) =
     room_for (refusal v.register v.free (Tell c)) (put_out v.register (Tell c)) v.free (λ e.
     omega (arith, (tell_passed v.register v.free c e).3, length_round v.register (TellRound c)))
 fits v Carry = omega arith
-fits v (ReplicaOut b) = room_for (refusal v.register v.free (ReplicaOut b)) [] v.free (λ e. omega arith)
+fits v (ReplicaOut i) = room_for (refusal v.register v.free (ReplicaOut i)) [] v.free (λ e. omega arith)
 fits v (ClientOut c) = room_for (refusal v.register v.free (ClientOut c)) [] v.free (λ e. omega arith)
 
 -- ---- each move is a step
@@ -97,7 +97,7 @@ steps v (Write z) i = record { answered = call_steps v (Write z); sent = refl }
 steps v (Read c) i = record { answered = call_steps v (Read c); sent = refl }
 steps v (Tell c) i = record { answered = call_steps v (Tell c); sent = refl }
 steps v Carry i = carry_steps v v.waiting i refl
-steps v (ReplicaOut b) i = record { answered = call_steps v (ReplicaOut b); sent = refl }
+steps v (ReplicaOut r) i = record { answered = call_steps v (ReplicaOut r); sent = refl }
 steps v (ClientOut c) i = record { answered = call_steps v (ClientOut c); sent = refl }
 
 -- ---- every list of moves is a past

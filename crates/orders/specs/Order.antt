@@ -9,5 +9,5 @@ named (Write z) = 0
 named (Read c) = c
 named (Tell c) = c
 named Carry = 0
-named (ReplicaOut b) = b
+named (ReplicaOut i) = i
 named (ClientOut c) = c

@@ -7,15 +7,15 @@ use Rattle.std.specs.List.{list_any}
 use Rattle.quorum.specs.Tally.{from, adds, Once}
 
 -- the same as std's test of any element
-pub from_is_any : {X : Type 0} (f : X → ℕ) (b : ℕ) (xs : List X) → list_any (λ x. eqb (f x) b) xs ≡ from f b xs
-from_is_any f b [] = refl
-from_is_any f b (x ∷ xs) = ap (λ r. eqb (f x) b || r) (from_is_any f b xs)
+pub from_is_any : {X : Type 0} (f : X → ℕ) (i : ℕ) (xs : List X) → list_any (λ x. eqb (f x) i) xs ≡ from f i xs
+from_is_any f i [] = refl
+from_is_any f i (x ∷ xs) = ap (λ r. eqb (f x) i || r) (from_is_any f i xs)
 
-from_push : {X : Type 0} (f : X → ℕ) (b : ℕ) (xs : List X) (y : X) → from f b xs ≡ false → eqb (f y) b ≡ false → from f b (xs ++ y ∷ []) ≡ false
-from_push f b [] y a e = grind arith
-from_push f b (x ∷ xs) y a e =
-    let h : eqb (f x) b ≡ false = grind arith in
-    let r : from f b (xs ++ y ∷ []) ≡ false = from_push f b xs y (grind arith) e in
+from_push : {X : Type 0} (f : X → ℕ) (i : ℕ) (xs : List X) (y : X) → from f i xs ≡ false → eqb (f y) i ≡ false → from f i (xs ++ y ∷ []) ≡ false
+from_push f i [] y a e = grind arith
+from_push f i (x ∷ xs) y a e =
+    let h : eqb (f x) i ≡ false = grind arith in
+    let r : from f i (xs ++ y ∷ []) ≡ false = from_push f i xs y (grind arith) e in
     grind arith
 
 -- a slip of a new replica leaves each named once

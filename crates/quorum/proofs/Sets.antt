@@ -69,14 +69,14 @@ chosen_all P (true ∷ bs) (x ∷ xs) a = (a.0, chosen_all P bs xs a.1)
 chosen_all P (false ∷ bs) (x ∷ xs) a = chosen_all P bs xs a.1
 
 -- a selection names no replica that the list does not name
-pub chosen_from_no : {X : Type 0} (f : X → ℕ) (b : ℕ) (sel : List Bool) (xs : List X) → from f b xs ≡ false → from f b (chosen sel xs) ≡ false
-chosen_from_no f b [] xs e = refl
-chosen_from_no f b (c ∷ cs) [] e = refl
-chosen_from_no f b (true ∷ cs) (x ∷ xs) e =
-    let p = or_parts (eqb (f x) b) (from f b xs) e in
-    or_from (eqb (f x) b) (from f b (chosen cs xs)) p.0 (chosen_from_no f b cs xs p.1)
-chosen_from_no f b (false ∷ cs) (x ∷ xs) e =
-    chosen_from_no f b cs xs (or_parts (eqb (f x) b) (from f b xs) e).1
+pub chosen_from_no : {X : Type 0} (f : X → ℕ) (i : ℕ) (sel : List Bool) (xs : List X) → from f i xs ≡ false → from f i (chosen sel xs) ≡ false
+chosen_from_no f i [] xs e = refl
+chosen_from_no f i (c ∷ cs) [] e = refl
+chosen_from_no f i (true ∷ cs) (x ∷ xs) e =
+    let p = or_parts (eqb (f x) i) (from f i xs) e in
+    or_from (eqb (f x) i) (from f i (chosen cs xs)) p.0 (chosen_from_no f i cs xs p.1)
+chosen_from_no f i (false ∷ cs) (x ∷ xs) e =
+    chosen_from_no f i cs xs (or_parts (eqb (f x) i) (from f i xs) e).1
 
 pub chosen_once : {X : Type 0} (f : X → ℕ) (sel : List Bool) (xs : List X) → Once f xs → Once f (chosen sel xs)
 chosen_once f [] xs o = tt

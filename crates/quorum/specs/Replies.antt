@@ -1,5 +1,6 @@
 -- What a client has counted in a round.
 use Rattle.std.specs.Prelude.{◌≡◌, ◌+◌, ℕ, cond, replicate, slice_set}
+use Rattle.settings.specs.Limits.{replicas_max}
 use Rattle.quorum.specs.Tally.{adds}
 use Rattle.quorum.specs.declared.slip.Receipt.{Receipt}
 use Rattle.quorum.specs.declared.slip.Reading.{Reading}
@@ -15,7 +16,7 @@ Readings = Replies Reading
 
 -- none is counted yet, and a blank slip stands at each place
 abbrev pub none_counted : {X : Type 0} → X → Replies X
-none_counted blank = record { got = 0; slips = replicate 32 blank }
+none_counted blank = record { got = 0; slips = replicate replicas_max blank }
 
 -- the same, at a blank slip that is the default
 pub record NoneCounted {X : Type 0} (is_default : X → Type 0) (r : Replies X) : Type 0 where

@@ -5,6 +5,7 @@ ghost use Rattle.quorum.specs.Replies.{NoneCounted, with_slip};
 
 use crate::slip::{Reading, Receipt, Slip};
 use crate::tally::Tally;
+use settings::limits::REPLICAS_MAX;
 
 // Adds the slip behind the first len places, unless its replica is counted already or no place is left.
 // A function of its own: a tally that a generic struct lends a field to leaves the checker no tie to it.
@@ -16,13 +17,13 @@ fn add_to<T: Slip + Drop>(places: &mut [T], len: usize, slip: T) -> bool
     Tally::over(places, len).add(slip)
 }
 
-/// The slips of one round: the first got of 32 places; the others are free.
+/// The slips of one round: the first got places; the others are free.
 // An array with a count beside it, since an `ArrayVec` is not `Copy`, as every client that holds this is.
 #[derive(Debug, Clone, Copy, PartialEq)]
 pub struct Replies<T> {
     /// how many are counted
     pub got: usize,
-    pub slips: [T; 32],
+    pub slips: [T; REPLICAS_MAX as usize],
 }
 
 /// The receipts of a write's or a tell's round.
@@ -38,7 +39,7 @@ impl<T: Slip + Default + Copy> Replies<T> {
     {
         Replies {
             got: 0,
-            slips: [T::default(); 32],
+            slips: [T::default(); REPLICAS_MAX as usize],
         }
     }
 }

@@ -11,6 +11,7 @@ use client::client::Client;
 use replica::row::Row;
 use settings::checked::Checked;
 use settings::given::Settings;
+use settings::limits::{CLIENTS_MAX, REPLICAS_MAX};
 use wire::channel::Channel;
 
 // Is the channel empty, with a place for each replica?
@@ -45,9 +46,9 @@ pub(crate) fn make(settings: Checked) -> Register
     Register {
         settings,
         outs: 0,
-        out: [false; 32],
-        rows: [row; 32],
-        clients: [client; 65],
+        out: [false; REPLICAS_MAX as usize],
+        rows: [row; REPLICAS_MAX as usize],
+        clients: [client; CLIENTS_MAX as usize],
     }
 }
 

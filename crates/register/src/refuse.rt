@@ -1,5 +1,6 @@
 //! Why a call is sent back: the first refusal that fits, tried in rising order of the numbers.
 ghost use Rattle.std.specs.Prelude.{◌≡◌, ◌<◌, IfOk};
+ghost use Rattle.settings.specs.Limits.{replicas_max, clients_max};
 ghost use Rattle.settings.specs.Fault.{FailsBy};
 ghost use Rattle.client.specs.Start.{kind_of};
 ghost use Rattle.register.specs.Refuse.{write_refusal, read_refusal, tell_refusal, reader_refusal, room_refusal, replica_out_refusal, client_out_refusal};
@@ -36,7 +37,7 @@ impl Register {
 
     pub(crate) fn check_read<C: Channel>(&self, c: &C, reader: u32) -> Result<u8, Refusal>
         ensures said { FailsBy result (read_refusal self.now (C.contents c.now).free reader) }
-        ensures same { IfOk result (λ who. (who ≡ reader) × (who < 65)) }
+        ensures same { IfOk result (λ who. (who ≡ reader) × (who < clients_max)) }
     {
         let who = self.check_reader(reader)?;
         let client = &self.clients[usize::from(who)];
@@ -52,7 +53,7 @@ impl Register {
 
     pub(crate) fn check_tell<C: Channel>(&self, c: &C, reader: u32) -> Result<u8, Refusal>
         ensures said { FailsBy result (tell_refusal self.now (C.contents c.now).free reader) }
-        ensures same { IfOk result (λ who. (who ≡ reader) × (who < 65)) }
+        ensures same { IfOk result (λ who. (who ≡ reader) × (who < clients_max)) }
     {
         let who = self.check_reader(reader)?;
         if !matches!(self.clients[usize::from(who)].phase, Phase::Due) {
@@ -75,7 +76,7 @@ impl Register {
 
     pub(crate) fn check_replica_out(&self, replica: u32) -> Result<usize, Refusal>
         ensures said { FailsBy result (replica_out_refusal self.now replica) }
-        ensures same { IfOk result (λ i. (i ≡ replica) × (i < 32)) }
+        ensures same { IfOk result (λ i. (i ≡ replica) × (i < replicas_max)) }
     {
         if replica >= u32::from(self.settings.replicas) {
             return Err(Refusal::Unknown);
@@ -92,7 +93,7 @@ impl Register {
 
     pub(crate) fn check_client_out(&self, client: u32) -> Result<u8, Refusal>
         ensures said { FailsBy result (client_out_refusal self.now client) }
-        ensures same { IfOk result (λ who. (who ≡ client) × (who < 65)) }
+        ensures same { IfOk result (λ who. (who ≡ client) × (who < clients_max)) }
     {
         if client > u32::from(self.settings.readers) {
             return Err(Refusal::Unknown);
@@ -107,7 +108,7 @@ impl Register {
     // A reader that is known and not out.
     fn check_reader(&self, reader: u32) -> Result<u8, Refusal>
         ensures said { FailsBy result (reader_refusal self.now reader) }
-        ensures same { IfOk result (λ who. (who ≡ reader) × (who < 65)) }
+        ensures same { IfOk result (λ who. (who ≡ reader) × (who < clients_max)) }
     {
         if reader == 0 {
             return Err(Refusal::Unknown);

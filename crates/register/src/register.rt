@@ -4,6 +4,7 @@ ghost use Rattle.std.specs.Prelude.{◌≡◌};
 use client::client::{Client, Phase};
 use replica::row::Row;
 use settings::checked::Checked;
+use settings::limits::{CLIENTS_MAX, REPLICAS_MAX};
 
 /// Settings, replicas and clients. Tens of kilobytes: handed on by reference.
 #[derive(Drop)]
@@ -12,14 +13,14 @@ pub struct Register {
     /// the writer at 0, reader c at c; the first R + 1 are in use
     // Here, with no padding before or behind it: with padding the whole table is cleared and moved once more when a
     // register is made.
-    pub(crate) clients: [Client; 65],
+    pub(crate) clients: [Client; CLIENTS_MAX as usize],
     /// what each replica holds; the first S are in use
-    pub(crate) rows: [Row; 32],
+    pub(crate) rows: [Row; REPLICAS_MAX as usize],
     /// how many replicas are out
     pub(crate) outs: u8,
     /// which replicas are out; the first S are in use
     // Beside the rows, since a row alone is lent to the delivery step.
-    pub(crate) out: [bool; 32],
+    pub(crate) out: [bool; REPLICAS_MAX as usize],
 }
 
 // What can be seen of a register without a change.
@@ -43,7 +44,7 @@ impl Register {
         Some(self.clients[client as usize].phase)
     }
 
-    /// Is the replica withdrawn, as the table of 32 has it? No for a number past the table.
+    /// Is the replica withdrawn, as the table has it? No for a number past the table.
     pub fn is_out(&self, replica: u32) -> bool
         ensures { result ≡ is_out self.now replica }
     {

@@ -1,5 +1,6 @@
 -- What a message does to a replica's record.
 use Rattle.std.specs.Prelude.{not, ◌+◌, max, Bool, cond, ◌||◌, Some, None, Option, ◌==◌, bit_or, nat_le, nat_lt, slice_index, slice_set}
+use Rattle.settings.specs.Limits.{clients_max}
 use Rattle.wire.specs.Kind.{is_request}
 use Rattle.wire.specs.declared.message.Message.{Message}
 use Rattle.replica.specs.declared.row.Row.{Row}
@@ -19,7 +20,7 @@ plain r =
 
 -- a message that no replica acts on: no request, or of a client without a round number here
 abbrev pub misdirected : Message → Bool
-misdirected m = not (is_request m.kind) || nat_le 65 m.client
+misdirected m = not (is_request m.kind) || nat_le clients_max m.client
 
 -- a message whose round is not above the last one heard from its client
 abbrev pub is_stale : Row → Message → Bool

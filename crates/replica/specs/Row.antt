@@ -1,12 +1,13 @@
 -- What a row of the table is, and what a message does to it.
 use Rattle.std.specs.Prelude.{min, replicate, ℤ, Option}
+use Rattle.settings.specs.Limits.{clients_max}
 use Rattle.wire.specs.declared.message.Message.{Message}
 use Rattle.replica.specs.declared.row.Row.{Row}
 use Rattle.replica.specs.Replica.{stepped, replied}
 
 -- as it opens: version 0, both values the initial one, no marks, note 0 and rounds 0
 abbrev pub opened_row : ℤ → Row
-opened_row z = record { version = 0; value = z; previous = z; marks = 0; note = 0; rounds = replicate 65 0 }
+opened_row z = record { version = 0; value = z; previous = z; marks = 0; note = 0; rounds = replicate clients_max 0 }
 
 -- the record of a row: the lower of its note and version is the note
 abbrev pub record_of : Row → Row

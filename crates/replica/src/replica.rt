@@ -1,8 +1,10 @@
 //! A replica's record: how it is made from a row, and what a message does to it.
 ghost use Rattle.std.specs.Prelude.{◌≡◌, ◌+◌, ◌<◌, ◌≤◌, Some};
+ghost use Rattle.settings.specs.Limits.{clients_max};
 ghost use Rattle.wire.specs.Kind.{kind_of, number_of};
 
 use crate::row::Row;
+use settings::limits::CLIENTS_MAX;
 use wire::kind::Kind;
 use wire::message::Message;
 
@@ -14,7 +16,7 @@ pub struct Replica {
     pub(crate) previous: i32,
     pub(crate) marks: u8,
     pub(crate) note: u32,
-    pub(crate) rounds: [u32; 65],
+    pub(crate) rounds: [u32; CLIENTS_MAX as usize],
     ghost sound: { note ≤ version },
 }
 
@@ -79,7 +81,7 @@ impl Replica {
 
     // A fresh request: its round is recorded, and what it brings is taken.
     fn take(&mut self, kind: Kind, m: Message)
-        requires client { m.client < 65 }
+        requires client { m.client < clients_max }
         requires named { kind_of m.kind ≡ Some kind }
         ensures { plain self.new ≡ fresh (plain self.old) m }
     {

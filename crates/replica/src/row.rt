@@ -2,6 +2,7 @@
 ghost use Rattle.std.specs.Prelude.{◌≡◌};
 
 use crate::replica::Replica;
+use settings::limits::CLIENTS_MAX;
 use wire::message::Message;
 
 /// A replica as it lies in the register's table: a plain row, of which nothing is promised.
@@ -15,7 +16,7 @@ pub struct Row {
     /// the highest version that a tell brought
     pub note: u32,
     /// the last round heard from each client
-    pub rounds: [u32; 65],
+    pub rounds: [u32; CLIENTS_MAX as usize],
 }
 
 impl Row {

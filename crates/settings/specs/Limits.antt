@@ -1,6 +1,9 @@
 -- The limits that several crates name, under the names of src/limits.rt in small letters.
 use Rattle.std.specs.Prelude.{ℕ}
 
+abbrev pub replicas_min : ℕ
+replicas_min = 4
+
 abbrev pub replicas_max : ℕ
 replicas_max = 32
 
@@ -12,6 +15,10 @@ groups_max = 7
 
 abbrev pub readers_max : ℕ
 readers_max = 64
+
+-- the writer, and the most readers
+abbrev pub clients_max : ℕ
+clients_max = 65
 
 -- the largest value; the smallest is its negative
 abbrev pub value_max : ℕ

@@ -1,5 +1,6 @@
 //! Settings that passed the check, and the marks that they give to clients.
-ghost use Rattle.std.specs.Prelude.{◌≡◌, ◌+◌, ◌*◌, ◌<◌, ◌≤◌, pos, negsuc, ◌≤ℤ◌};
+ghost use Rattle.std.specs.Prelude.{◌≡◌, ◌+◌, ◌-◌, ◌*◌, ◌<◌, ◌≤◌, pos, negsuc, ◌≤ℤ◌};
+ghost use Rattle.settings.specs.Limits.{replicas_min, replicas_max, tolerated_max, groups_max, readers_max, value_max};
 
 use crate::fault::SettingsFault;
 use crate::given::Settings;
@@ -18,12 +19,12 @@ pub struct Checked {
     pub readers: u8,
     /// between -9,999,999 and 9,999,999
     pub initial: i32,
-    ghost replicated: { (4 ≤ replicas) × (replicas ≤ 32) },
-    ghost tolerant: { (1 ≤ tolerated) × (tolerated ≤ 10) },
-    ghost grouped: { (1 ≤ groups) × (groups ≤ 7) },
-    ghost read: { (1 ≤ readers) × (readers ≤ 64) },
+    ghost replicated: { (replicas_min ≤ replicas) × (replicas ≤ replicas_max) },
+    ghost tolerant: { (1 ≤ tolerated) × (tolerated ≤ tolerated_max) },
+    ghost grouped: { (1 ≤ groups) × (groups ≤ groups_max) },
+    ghost read: { (1 ≤ readers) × (readers ≤ readers_max) },
     ghost overlap: { (groups + 2) * tolerated < replicas },
-    ghost valued: { (negsuc 9999998 ≤ℤ initial) × (initial ≤ℤ pos 9999999) },
+    ghost valued: { (negsuc (value_max - 1) ≤ℤ initial) × (initial ≤ℤ pos value_max) },
 }
 
 /// The check: the settings pass, or the first fault.

@@ -1,5 +1,8 @@
 //! Limits that several places name; docs/RULES.md and docs/FORMATS.md have them all.
 
+/// The fewest replicas.
+pub const REPLICAS_MIN: u32 = 4;
+
 /// The most replicas.
 pub const REPLICAS_MAX: u32 = 32;
 
@@ -11,6 +14,9 @@ pub const GROUPS_MAX: u32 = 7;
 
 /// The most readers.
 pub const READERS_MAX: u32 = 64;
+
+/// The most clients: the writer, and the most readers.
+pub const CLIENTS_MAX: u32 = 65;
 
 /// The largest value; the smallest is its negative.
 pub const VALUE_MAX: i32 = 9_999_999;

@@ -3,13 +3,13 @@ ghost use Rattle.std.specs.Prelude.{◌≡◌};
 ghost use Rattle.settings.specs.Range.{in_ranges, value_in_range};
 
 use crate::given::Settings;
-use crate::limits::{GROUPS_MAX, READERS_MAX, REPLICAS_MAX, TOLERATED_MAX, VALUE_MAX};
+use crate::limits::{GROUPS_MAX, READERS_MAX, REPLICAS_MAX, REPLICAS_MIN, TOLERATED_MAX, VALUE_MAX};
 
 // Is each number within its range?
 pub(crate) fn in_ranges(s: &Settings) -> bool
     ensures { result ≡ in_ranges s.now }
 {
-    (4..=REPLICAS_MAX).contains(&s.replicas)
+    (REPLICAS_MIN..=REPLICAS_MAX).contains(&s.replicas)
         && (1..=TOLERATED_MAX).contains(&s.tolerated)
         && (1..=GROUPS_MAX).contains(&s.groups)
         && (1..=READERS_MAX).contains(&s.readers)

@@ -6,7 +6,7 @@ use Rattle.std.proofs.lemmas.List.{map-append, length-replicate, length-set}
 use Rattle.std.proofs.lemmas.Bool.{ltb-false, cases_eq, ne_eqb, eq-eqb, cond_both, cond-true, cond-false}
 use Rattle.std.proofs.lemmas.Bool.Decides.{nat_tests}
 use Rattle.std.proofs.lemmas.Nat.{pow_below, mod_below}
-use Rattle.theory.proofs.Words.{Message, Order, Write, Read, Tell, ReplicaOut, ClientOut, Refusal, Answer, Accepted, Refused, no_receipts, no_readings, blank_receipt, blank_reading, Checked, Phase, Idle, Writing, Asking, Due, Telling, Client, Register, client_at, with_client, blank_client, mark_of, World, Called, sent_by, Entry}
+use Rattle.theory.proofs.Words.{clients_max, replicas_max, rounds_max, Message, Order, Write, Read, Tell, ReplicaOut, ClientOut, Refusal, Answer, Accepted, Refused, no_receipts, no_readings, blank_receipt, blank_reading, Checked, Phase, Idle, Writing, Asking, Due, Telling, Client, Register, client_at, with_client, blank_client, mark_of, World, Called, sent_by, Entry}
 use Rattle.client.specs.declared.start.Round.TheVariants.{Write as WriteRound, Read as ReadRound, Tell as TellRound}
 use Rattle.register.specs.Refuse as refuse
 use Rattle.register.specs.Send.{toward, copies}
@@ -79,11 +79,11 @@ mark_byte k c =
 
 -- what an accepted write, read and tell passed
 pub write_passed : (r : Register) (free : ℕ) (z : ℤ) → refuse.write_refusal r free z ≡ None
-    → ((client_at r 0).out ≡ false) × (is_idle (client_at r 0).phase ≡ true) × ((client_at r 0).round < 2000000) × (set_size r.settings 1 ≤ free)
+    → ((client_at r 0).out ≡ false) × (is_idle (client_at r 0).phase ≡ true) × ((client_at r 0).round < rounds_max) × (set_size r.settings 1 ≤ free)
 write_passed r free z e = grind (arith, nat_tests)
 
 pub read_passed : (r : Register) (free c : ℕ) → refuse.read_refusal r free c ≡ None
-    → (refuse.no_reader r c ≡ false) × ((client_at r c).out ≡ false) × (is_idle (client_at r c).phase ≡ true) × ((client_at r c).round < 2000000) × (set_size r.settings 2 ≤ free)
+    → (refuse.no_reader r c ≡ false) × ((client_at r c).out ≡ false) × (is_idle (client_at r c).phase ≡ true) × ((client_at r c).round < rounds_max) × (set_size r.settings 2 ≤ free)
 read_passed r free c e = grind (arith, nat_tests)
 
 pub tell_passed : (r : Register) (free c : ℕ) → refuse.tell_refusal r free c ≡ None
@@ -100,7 +100,7 @@ idle_matches k (Asking rs) q e h = grind arith
 idle_matches k Due q e h = grind arith
 idle_matches k (Telling rs) q e h = grind arith
 
-due_matches : (k : Checked) (p : Phase) (q : model.Phase) (n : ℕ) → is_due p ≡ true → PhasesMatch k p q → RoundsLeft p n → (q ≡ model.due) × (n ≤ 2000000)
+due_matches : (k : Checked) (p : Phase) (q : model.Phase) (n : ℕ) → is_due p ≡ true → PhasesMatch k p q → RoundsLeft p n → (q ≡ model.due) × (n ≤ rounds_max)
 due_matches k Idle q n e h l = grind arith
 due_matches k (Writing rs) q n e h l = grind arith
 due_matches k (Asking rs) q n e h l = grind arith
@@ -115,25 +115,25 @@ three_fit k =
     let l : 3 ≤ k.groups + 2 = omega (arith, k.grouped.0) in omega (arith, mul-le-mul_right k.tolerated l, k.overlap)
 
 no_receipts_lem : (need : ℕ) → 0 < need → ReceiptsMatch need no_receipts []
-no_receipts_lem need l = record { long = length-replicate 32 blank_receipt; got = refl; short = l; same = refl }
+no_receipts_lem need l = record { long = length-replicate replicas_max blank_receipt; got = refl; short = l; same = refl }
 
 no_readings_lem : (need : ℕ) → 0 < need → ReadingsMatch need no_readings []
 no_readings_lem need l =
-    record { long = length-replicate 32 blank_reading; got = refl; short = l; counted = record { same = refl; once = tt; bytes = tt } }
+    record { long = length-replicate replicas_max blank_reading; got = refl; short = l; counted = record { same = refl; once = tt; bytes = tt } }
 
 raised_is : (m n : ℕ) → m ≡ n → m ≤ 2000001 → raised m ≡ suc n
 raised_is m n e l = omega arith
 
-pub clients_set : (k : Checked) (xs : List Client) (f : ℕ → model.Client) (g : ℕ → Bool) (c : ℕ) (x : Client) (y : model.Client) → c < 65 → ClientsMatch k xs f g → x.out ≡ g c → ClientMatches k x y → ClientsMatch k (set xs c x) (put f c y) g
+pub clients_set : (k : Checked) (xs : List Client) (f : ℕ → model.Client) (g : ℕ → Bool) (c : ℕ) (x : Client) (y : model.Client) → c < clients_max → ClientsMatch k xs f g → x.out ≡ g c → ClientMatches k x y → ClientsMatch k (set xs c x) (put f c y) g
 clients_set k xs f g c x y l h o m =
     let i : c < length xs = omega (arith, h.long) in
     record {
       long = length-set xs c x ∙ h.long;
-      out = each_set_beside (λ z b. z.out ≡ b) 65 xs c x blank_client g i o h.out;
-      each = each_set (ClientMatches k) 65 xs c x blank_client f y i m h.each;
+      out = each_set_beside (λ z b. z.out ≡ b) clients_max xs c x blank_client g i o h.out;
+      each = each_set (ClientMatches k) clients_max xs c x blank_client f y i m h.each;
     }
 
-pub register_client : (k : Checked) (r : Register) (b : model.State) (c : ℕ) (x : Client) (y : model.Client) (ms : List Msg) → c < 65 → RegisterMatches k r b → x.out ≡ (client_at r c).out → ClientMatches k x y → RegisterMatches k (with_client r c x) (model.sets b c y ms)
+pub register_client : (k : Checked) (r : Register) (b : model.State) (c : ℕ) (x : Client) (y : model.Client) (ms : List Msg) → c < clients_max → RegisterMatches k r b → x.out ≡ (client_at r c).out → ClientMatches k x y → RegisterMatches k (with_client r c x) (model.sets b c y ms)
 register_client k r b c x y ms l h o m =
     record {
       settings = h.settings;
@@ -196,7 +196,7 @@ module _ (k : Checked) (log : List Entry) (v w : World) (b : model.State) (t : m
   reader_few c e = subst (λ a. c ≤ a.readers) same (reader_below r c e)
 
   module _ (c : ℕ) (few : c ≤ k.readers) where
-    low : c < 65
+    low : c < clients_max
     low = omega (arith, k.read.1)
 
     client : ClientMatches k (client_at r c) (b.clients c)
@@ -257,7 +257,7 @@ module _ (k : Checked) (log : List Entry) (v w : World) (b : model.State) (t : m
   replica_gone_reaches i e reg s =
       let p = replica_passed r i e in
       let below : i < k.replicas = subst (λ a. i < a.replicas) same p.0 in
-      let few : i < 32 = omega (arith, k.replicated.1) in
+      let few : i < replicas_max = omega (arith, k.replicated.1) in
       let o : OutsMatch k.replicas r.outs r.out b.replica_out = h.register.outs in
       let present : b.replica_out i ≡ false = sym (o.each i few) ∙ p.1 in
       let less : model.out_count b.replica_out k.replicas < k.tolerated = subst (λ n. n < k.tolerated) o.count (subst (λ a. r.outs < a.tolerated) same p.2) in
@@ -268,7 +268,7 @@ module _ (k : Checked) (log : List Entry) (v w : World) (b : model.State) (t : m
         outs =
             record {
               long = length-set r.out i true ∙ o.long;
-              each = each_set (λ x y. x ≡ y) 32 r.out i true false b.replica_out true (omega (arith, o.long)) refl o.each;
+              each = each_set (λ x y. x ≡ y) replicas_max r.out i true false b.replica_out true (omega (arith, o.long)) refl o.each;
               count = omega (arith, o.count, count_put b.replica_out i k.replicas below present);
             };
         clients = h.register.clients;
@@ -288,8 +288,8 @@ module _ (k : Checked) (log : List Entry) (v w : World) (b : model.State) (t : m
         clients =
             record {
               long = length-set r.clients c (gone (client_at r c)) ∙ cs.long;
-              out = each_set (λ z y. z.out ≡ y) 65 r.clients c (gone (client_at r c)) blank_client b.client_out true i refl cs.out;
-              each = each_set_beside (ClientMatches k) 65 r.clients c (gone (client_at r c)) blank_client b.clients i
+              out = each_set (λ z y. z.out ≡ y) clients_max r.clients c (gone (client_at r c)) blank_client b.client_out true i refl cs.out;
+              each = each_set_beside (ClientMatches k) clients_max r.clients c (gone (client_at r c)) blank_client b.clients i
                   (record { round = x.round; version = x.version; value = x.value; previous = x.previous; phase = x.phase; left = x.left }) cs.each;
             };
       }) s (subst (λ y. Same y (map msg_of v.waiting)) h.waiting (same_self (map msg_of v.waiting))) h.proper

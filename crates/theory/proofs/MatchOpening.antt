@@ -5,7 +5,7 @@ use lib.Count.{ones, ones_cat, ones-ones}
 use Rattle.std.proofs.lemmas.List.{get_or-replicate, length-replicate}
 use Rattle.std.proofs.lemmas.Nat.{pow_below, mod_below}
 use Rattle.std.proofs.lemmas.Bool.{ne_eqb, cond_both}
-use Rattle.theory.proofs.Words.{opened_row, Checked, opened, blank_row, blank_client, mark_of, world, empty}
+use Rattle.theory.proofs.Words.{clients_max, replicas_max, opened_row, Checked, opened, blank_row, blank_client, mark_of, world, empty}
 use Rattle.client.specs.Client.{opened_client}
 use Rattle.theory.proofs.Cards.{Fit}
 use Rattle.theory.proofs.Model as model
@@ -49,11 +49,11 @@ params_of_fits k =
 opened_row_lem : (z : ℤ) → RowMatches (opened_row z) (record { version = 0; value = z; previous = z; marks = 0; note = 0 }) (λ c. 0)
 opened_row_lem z =
     record {
-      long = length-replicate {A = ℕ} 65 0;
+      long = length-replicate {A = ℕ} clients_max 0;
       card = refl;
       sound = omega arith;
       byte = omega arith;
-      heard = λ c l. get_or-replicate 65 c 0 0 l;
+      heard = λ c l. get_or-replicate clients_max c 0 0 l;
     }
 
 opened_client_lem : (k : Checked) (z : ℤ) → ClientMatches k (opened_client z) (record { round = 0; version = 0; value = z; previous = z; phase = model.idle })
@@ -68,20 +68,20 @@ opening_matches k free =
             settings = refl;
             rows =
                 record {
-                  long = length-replicate 32 (opened_row k.initial);
-                  each = λ i l. subst (λ r. RowMatches r ((model.opened k.initial).replicas i) (λ c. 0)) (sym (get_or-replicate 32 i (opened_row k.initial) blank_row l)) (opened_row_lem k.initial);
+                  long = length-replicate replicas_max (opened_row k.initial);
+                  each = λ i l. subst (λ r. RowMatches r ((model.opened k.initial).replicas i) (λ c. 0)) (sym (get_or-replicate replicas_max i (opened_row k.initial) blank_row l)) (opened_row_lem k.initial);
                 };
             outs =
                 record {
-                  long = length-replicate 32 false;
-                  each = λ i l. get_or-replicate 32 i false false l;
+                  long = length-replicate replicas_max false;
+                  each = λ i l. get_or-replicate replicas_max i false false l;
                   count = sym (none_out k.replicas);
                 };
             clients =
                 record {
-                  long = length-replicate 65 (opened_client k.initial);
-                  out = λ c l. ap (λ x. x.out) (get_or-replicate 65 c (opened_client k.initial) blank_client l);
-                  each = λ c l. subst (λ x. ClientMatches k x ((model.opened k.initial).clients c)) (sym (get_or-replicate 65 c (opened_client k.initial) blank_client l)) (opened_client_lem k k.initial);
+                  long = length-replicate clients_max (opened_client k.initial);
+                  out = λ c l. ap (λ x. x.out) (get_or-replicate clients_max c (opened_client k.initial) blank_client l);
+                  each = λ c l. subst (λ x. ClientMatches k x ((model.opened k.initial).clients c)) (sym (get_or-replicate clients_max c (opened_client k.initial) blank_client l)) (opened_client_lem k k.initial);
                 };
           };
       waiting = refl;

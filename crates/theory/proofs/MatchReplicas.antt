@@ -6,7 +6,7 @@ use Rattle.std.specs.List.Sorted.{IsPermutation}
 use Rattle.std.proofs.lemmas.List.{length-set, set-get_or}
 use Rattle.std.proofs.lemmas.Bool.Decides.{nat_tests}
 use Rattle.std.proofs.lemmas.Bool.{cases_Bool, ltb-true, ltb-false, leb-true, leb-false, le-ltb, lt-ltb, lt-leb, le-leb, or_from, or_right, and_from, cond_both, cond-true, cond-false}
-use Rattle.theory.proofs.Words.{Message, Carry, Answer, Replied, Ignored, Row, record_of, delivered, delivered_reply, Checked, Register, row_at, with_row, blank_row, is_request, is_stray, is_lost, handled, handled_answer, handled_reply, replied_or, World, Entry}
+use Rattle.theory.proofs.Words.{clients_max, replicas_max, Message, Carry, Answer, Replied, Ignored, Row, record_of, delivered, delivered_reply, Checked, Register, row_at, with_row, blank_row, is_request, is_stray, is_lost, handled, handled_answer, handled_reply, replied_or, World, Entry}
 use Rattle.replica.specs.Replica.{misdirected, is_stale, is_news, fresh, reply_from}
 use Rattle.theory.proofs.Cards.{Card}
 use Rattle.theory.proofs.Model as model
@@ -71,14 +71,14 @@ fresh_byte : (r : Row) (m : Message) → r.marks < 256 → m.marks < 256 → (fr
 fresh_byte r m a b =
     cond_both (is_news r m) m.marks (bit_or r.marks m.marks) (λ n. n < 256) (λ e. b) (λ e. or_lt 8 r.marks m.marks a b)
 
-fresh_matches : (r : Row) (m : Message) (c : Card) (f : ℕ → ℕ) → 1 ≤ m.kind → m.kind ≤ 3 → m.client < 65 → m.marks < 256 → RowMatches r c f → RowMatches (fresh r m) (after c (msg_of m)) (put f m.client m.round)
+fresh_matches : (r : Row) (m : Message) (c : Card) (f : ℕ → ℕ) → 1 ≤ m.kind → m.kind ≤ 3 → m.client < clients_max → m.marks < 256 → RowMatches r c f → RowMatches (fresh r m) (after c (msg_of m)) (put f m.client m.round)
 fresh_matches r m c f a b l d h =
     record {
       long = length-set r.rounds m.client m.round ∙ h.long;
       card = after_is_fresh r m c a b h.card;
       sound = fresh_sound r m h.sound;
       byte = fresh_byte r m h.byte d;
-      heard = each_set (λ x y. x ≡ y) 65 r.rounds m.client m.round 0 f m.round (omega (arith, h.long)) refl h.heard;
+      heard = each_set (λ x y. x ≡ y) clients_max r.rounds m.client m.round 0 f m.round (omega (arith, h.long)) refl h.heard;
     }
 
 reply_kind : (n : ℕ) → 1 ≤ n → n ≤ 3 → kind_of (n + 3) ≡ kind_of n
@@ -102,10 +102,10 @@ module _ (k : Checked) (r : Register) (b : model.State) (m : Message) (h : Regis
   abbrev row : Row
   row = row_at r m.replica
 
-  few : m.replica < 32
+  few : m.replica < replicas_max
   few = omega (arith, p.replica, k.replicated.1)
 
-  low_client : m.client < 65
+  low_client : m.client < clients_max
   low_client = omega (arith, p.client, k.read.1)
 
   row_matches : RowMatches row (b.replicas m.replica) (b.heard m.replica)
@@ -118,7 +118,7 @@ module _ (k : Checked) (r : Register) (b : model.State) (m : Message) (h : Regis
   directed =
       let low : 1 ≤ m.kind = p.low in
       let kind : not (is_request m.kind) ≡ false = grind (arith, nat_tests) in
-      or_from _ (leb 65 m.client) kind (lt-leb 65 m.client low_client)
+      or_from _ (leb clients_max m.client) kind (lt-leb clients_max m.client low_client)
 
   stale_row : is_stale row m ≡ true → (delivered row m ≡ row) × (delivered_reply row m ≡ None)
   stale_row e =
@@ -148,7 +148,7 @@ module _ (k : Checked) (r : Register) (b : model.State) (m : Message) (h : Regis
         clients = h.clients;
       }
     where
-      each_set_rows : (i : ℕ) → i < 32 → RowMatches (get_or (set r.rows m.replica row) i blank_row) (b.replicas i) (b.heard i)
+      each_set_rows : (i : ℕ) → i < replicas_max → RowMatches (get_or (set r.rows m.replica row) i blank_row) (b.replicas i) (b.heard i)
       each_set_rows i l = subst (λ x. RowMatches (get_or x i blank_row) (b.replicas i) (b.heard i)) (sym (set-get_or r.rows m.replica blank_row)) (h.rows.each i l)
 
   fresh_register : (rest : List Msg) → RegisterMatches k (with_row r m.replica (fresh row m)) (model.delivers b (msg_of m) rest)
@@ -158,7 +158,7 @@ module _ (k : Checked) (r : Register) (b : model.State) (m : Message) (h : Regis
         rows =
             record {
               long = length-set r.rows m.replica (fresh row m) ∙ h.rows.long;
-              each = each_set_two RowMatches 32 r.rows m.replica (fresh row m) blank_row b.replicas (after (b.replicas m.replica) (msg_of m)) b.heard (put (b.heard m.replica) m.client m.round)
+              each = each_set_two RowMatches replicas_max r.rows m.replica (fresh row m) blank_row b.replicas (after (b.replicas m.replica) (msg_of m)) b.heard (put (b.heard m.replica) m.client m.round)
                   (omega (arith, few, h.rows.long)) (fresh_matches row m (b.replicas m.replica) (b.heard m.replica) p.low to low_client p.byte row_matches) h.rows.each;
             };
         outs = h.outs;
@@ -178,7 +178,7 @@ module _ (k : Checked) (log : List Entry) (w : World) (r : Register) (m : Messag
   request : is_request m.kind ≡ true
   request = and_from _ _ (le-leb 1 m.kind g.proper.low) (le-leb m.kind 3 to)
 
-  place : m.replica < 32
+  place : m.replica < replicas_max
   place = omega (arith, g.proper.replica, k.replicated.1)
 
   out_is : is_lost r m ≡ b.replica_out m.replica
@@ -209,7 +209,7 @@ module _ (k : Checked) (log : List Entry) (w : World) (r : Register) (m : Messag
         let row : Row = row_at r m.replica in
         let reply : Message = reply_from (fresh row m) m in
         let h : RowMatches row (b.replicas m.replica) (b.heard m.replica) = row_matches k r b m g.matches g.proper to in
-        let low : m.client < 65 = low_client k r b m g.matches g.proper to in
+        let low : m.client < clients_max = low_client k r b m g.matches g.proper to in
         let an : a ≡ Replied m.client = answer ∙ case_replica r m _ _ _ _ known there request ∙ ap (λ x. replied_or x m.client) s.1 in
         let re : w.register ≡ with_row r m.replica (fresh row m) = register ∙ case_replica r m _ _ _ _ known there request ∙ ap (with_row r m.replica) s.0 in
         let se : ms ≡ reply ∷ [] = sent ∙ ap option_to_list (case_replica {A = Option Message} r m _ _ _ _ known there request ∙ s.1) in

@@ -4,7 +4,7 @@ use Rattle.std.specs.Option.{option_to_list}
 use Rattle.std.specs.List.Sorted.{IsPermutation}
 use Rattle.std.proofs.lemmas.List.{set-get_or, length-reverse, length-map}
 use Rattle.std.proofs.lemmas.Bool.{cases_Bool, eqb-true, eq-eqb, leb-true, lt-leb, lt-ltb, and_parts, and_from, and_right, both_ways, cond-true, cond-false}
-use Rattle.theory.proofs.Words.{Message, Carry, Answer, Ignored, Counted, BecameDue, Reading, Highest, Previous, reading_of, with_reading, Checked, Phase, Idle, Writing, Asking, Due, Telling, Client, Register, client_at, with_client, blank_client, is_request, is_stray, is_lost, handled, handled_answer, handled_reply, World, Entry}
+use Rattle.theory.proofs.Words.{clients_max, rounds_max, Message, Carry, Answer, Ignored, Counted, BecameDue, Reading, Highest, Previous, reading_of, with_reading, Checked, Phase, Idle, Writing, Asking, Due, Telling, Client, Register, client_at, with_client, blank_client, is_request, is_stray, is_lost, handled, handled_answer, handled_reply, World, Entry}
 use Rattle.quorum.specs.declared.decide.Verdict.{Verdict}
 use Rattle.quorum.specs.declared.decide.Verdict.TheVariants.{Due as Delayed}
 use Rattle.client.specs.Client.{in_phase}
@@ -34,7 +34,7 @@ module _ (k : Checked) (log : List Entry) (w : World) (r : Register) (m : Messag
   abbrev y : model.Client
   y = g.state.clients m.client
 
-  low : m.client < 65
+  low : m.client < clients_max
   low = omega (arith, g.proper.client, k.read.1)
 
   matched : ClientMatches k x y
@@ -82,7 +82,7 @@ module _ (k : Checked) (log : List Entry) (w : World) (r : Register) (m : Messag
         (model.finished (msg_of m) (map msg_of rest) kd ss n ms g.takes present cu why g.trace))
 
     -- ---- a first round that is complete
-    module _ (ss : List Slip) (xs : List Reading) (cu : model.Counting b (msg_of m) model.reads ss) (total : k.replicas ≡ length (model.slip (msg_of m) ∷ ss) + k.tolerated) (few : x.round ≤ 2000000) (j : Judged k xs (model.slip (msg_of m) ∷ ss)) where
+    module _ (ss : List Slip) (xs : List Reading) (cu : model.Counting b (msg_of m) model.reads ss) (total : k.replicas ≡ length (model.slip (msg_of m) ∷ ss) + k.tolerated) (few : x.round ≤ rounds_max) (j : Judged k xs (model.slip (msg_of m) ∷ ss)) where
       -- the client as it knows what was decided
       abbrev learnt : model.Phase → model.Client
       learnt q = record { round = y.round; version = (judgement k xs).version; value = (judgement k xs).value; previous = (judgement k xs).previous; phase = q }
@@ -150,7 +150,7 @@ module _ (judge : AllJudged) (k : Checked) (log : List Entry) (w : World) (r : R
   reply : is_request m.kind ≡ false
   reply = and_right (leb 1 m.kind) _ (lt-leb m.kind 3 from)
 
-  place : m.client < 65
+  place : m.client < clients_max
   place = omega (arith, g.proper.client, k.read.1)
 
   out_is : is_lost r m ≡ s.client_out m.client

@@ -1,7 +1,7 @@
 -- How a world of the register and a state of the model match.
 use Rattle.std.proofs.Common.{◌≡◌, ℕ, ◌+◌, ◌-◌, ◌*◌, ◌<◌, ◌≤◌, Bool, false, cond, eqb, ltb, List, map, reverse, length, get_or, take}
 use Rattle.std.specs.List.{AllByRecursion}
-use Rattle.theory.proofs.Words.{Message, Reading, Receipts, Readings, Once, Row, Checked, Phase, Idle, Writing, Asking, Due, Telling, Client, Register, opened, blank_row, blank_client, mark_of, World, world, empty, Entry, Past}
+use Rattle.theory.proofs.Words.{clients_max, replicas_max, rounds_max, Message, Reading, Receipts, Readings, Once, Row, Checked, Phase, Idle, Writing, Asking, Due, Telling, Client, Register, opened, blank_row, blank_client, mark_of, World, world, empty, Entry, Past}
 use Rattle.theory.proofs.Cards.{Params, Card, Slip, replicas_of}
 use Rattle.theory.proofs.Model as model
 
@@ -28,7 +28,7 @@ msg_of m = record { reply = ltb 3 m.kind; kind = kind_of m.kind; replica = m.rep
 
 -- The counted receipts, the newest first, name the replicas of the slips. A round that goes on has fewer than it needs.
 pub record ReceiptsMatch (need : ℕ) (rs : Receipts) (ss : List Slip) : Type 0 where
-  pub long : length rs.slips ≡ 32
+  pub long : length rs.slips ≡ replicas_max
   pub got : rs.got ≡ length ss
   pub short : rs.got < need
   pub same : replicas_of ss ≡ reverse (map (λ x. x.replica) (take rs.got rs.slips))
@@ -40,7 +40,7 @@ pub record ReadingsAre (xs : List Reading) (ss : List Slip) : Type 0 where
   pub bytes : AllByRecursion (λ x. x.marks < 256) xs
 
 pub record ReadingsMatch (need : ℕ) (rs : Readings) (ss : List Slip) : Type 0 where
-  pub long : length rs.slips ≡ 32
+  pub long : length rs.slips ≡ replicas_max
   pub got : rs.got ≡ length ss
   pub short : rs.got < need
   pub counted : ReadingsAre (take rs.got rs.slips) ss
@@ -56,8 +56,8 @@ PhasesMatch k (Telling rs) p = (ss : List Slip) × (p ≡ model.awaiting model.t
 abbrev pub RoundsLeft : Phase → ℕ → Type 0
 RoundsLeft Idle n = n ≤ 2000001
 RoundsLeft (Writing rs) n = n ≤ 2000001
-RoundsLeft (Asking rs) n = n ≤ 2000000
-RoundsLeft Due n = n ≤ 2000000
+RoundsLeft (Asking rs) n = n ≤ rounds_max
+RoundsLeft Due n = n ≤ rounds_max
 RoundsLeft (Telling rs) n = n ≤ 2000001
 
 -- a client
@@ -71,26 +71,26 @@ pub record ClientMatches (k : Checked) (x : Client) (y : model.Client) : Type 0 
 
 -- the clients, and which of them are out
 pub record ClientsMatch (k : Checked) (xs : List Client) (clients : ℕ → model.Client) (gone : ℕ → Bool) : Type 0 where
-  pub long : length xs ≡ 65
-  pub out : (c : ℕ) → c < 65 → (get_or xs c blank_client).out ≡ gone c
-  pub each : (c : ℕ) → c < 65 → ClientMatches k (get_or xs c blank_client) (clients c)
+  pub long : length xs ≡ clients_max
+  pub out : (c : ℕ) → c < clients_max → (get_or xs c blank_client).out ≡ gone c
+  pub each : (c : ℕ) → c < clients_max → ClientMatches k (get_or xs c blank_client) (clients c)
 
 -- a replica's row, its card, and the rounds that it heard
 pub record RowMatches (r : Row) (x : Card) (rounds : ℕ → ℕ) : Type 0 where
-  pub long : length r.rounds ≡ 65
+  pub long : length r.rounds ≡ clients_max
   pub card : row_card r ≡ x
   pub sound : r.note ≤ r.version
   pub byte : r.marks < 256
-  pub heard : (c : ℕ) → c < 65 → get_or r.rounds c 0 ≡ rounds c
+  pub heard : (c : ℕ) → c < clients_max → get_or r.rounds c 0 ≡ rounds c
 
 pub record RowsMatch (rows : List Row) (cards : ℕ → Card) (heard : ℕ → ℕ → ℕ) : Type 0 where
-  pub long : length rows ≡ 32
-  pub each : (i : ℕ) → i < 32 → RowMatches (get_or rows i blank_row) (cards i) (heard i)
+  pub long : length rows ≡ replicas_max
+  pub each : (i : ℕ) → i < replicas_max → RowMatches (get_or rows i blank_row) (cards i) (heard i)
 
 -- which replicas are out, and how many
 pub record OutsMatch (replicas outs : ℕ) (flags : List Bool) (gone : ℕ → Bool) : Type 0 where
-  pub long : length flags ≡ 32
-  pub each : (i : ℕ) → i < 32 → get_or flags i false ≡ gone i
+  pub long : length flags ≡ replicas_max
+  pub each : (i : ℕ) → i < replicas_max → get_or flags i false ≡ gone i
   pub count : outs ≡ model.out_count gone replicas
 
 -- a message of some kind, replica and client that there are, with marks that fit a byte

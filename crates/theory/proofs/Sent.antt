@@ -103,7 +103,7 @@ sent_own k v w (Read d) a e s c = called_own k v w (Read d) a c (put_out_own k v
 sent_own k v w (Tell d) a e s c = called_own k v w (Tell d) a c (put_out_own k v.register e (Tell d) c) s
 sent_own k v w Carry a e (inl s) c = handled_own c v.register s.message ∙ sym (cond_same (eqb (listed_as a).code 100))
 sent_own k v w Carry a e (inr s) c = sym (cond_same (eqb (listed_as a).code 100))
-sent_own k v w (ReplicaOut b) a e s c = called_own k v w (ReplicaOut b) a c refl s
+sent_own k v w (ReplicaOut i) a e s c = called_own k v w (ReplicaOut i) a c refl s
 sent_own k v w (ClientOut d) a e s c = called_own k v w (ClientOut d) a c refl s
 
 -- a read of client 0 is sent back as unknown

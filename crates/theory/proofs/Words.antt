@@ -2,6 +2,7 @@
 pub use Rattle.laws.specs.Entries.{Entry}
 pub use Rattle.orders.specs.declared.order.Order.TheVariants.{Carry, ClientOut, Read, ReplicaOut, Tell, Write}
 pub use Rattle.settings.specs.declared.checked.Checked.{Checked}
+pub use Rattle.settings.specs.Limits.{clients_max, replicas_max, rounds_max}
 pub use Rattle.wire.specs.declared.message.Message.{Message}
 pub use Rattle.orders.specs.declared.order.Order.{Order}
 pub use Rattle.orders.specs.Answer.{listed_as, number_of}

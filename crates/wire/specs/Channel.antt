@@ -3,6 +3,10 @@ use Rattle.std.specs.Prelude.{◌≡◌, ℕ, ◌+◌, List, [], ◌∷◌, ◌+
 use Rattle.std.specs.List.Sorted.{IsPermutation}
 use Rattle.wire.specs.declared.message.Message.{Message}
 
+-- the largest number of 32 bits, where a count and a round number end
+abbrev pub word_max : ℕ
+word_max = 4294967295
+
 -- what a channel means: the messages that wait in it, in no order but counted, and its free places
 pub record Contents : Type 0 where
   pub waiting : List Message

@@ -1,6 +1,6 @@
 //! The channel: what every transport of messages means to a register.
 ghost use Rattle.std.specs.Prelude.{◌≡◌, min, length};
-ghost use Rattle.wire.specs.Channel.{Contents, Put, Taken};
+ghost use Rattle.wire.specs.Channel.{Contents, word_max, Put, Taken};
 
 use crate::message::Message;
 
@@ -23,9 +23,9 @@ pub trait Channel {
 
     /// How many wait, or 4,294,967,295 where there are more.
     fn waiting(&self) -> u32
-        ensures { result ≡ min 4294967295 (length (contents self.now).waiting) };
+        ensures { result ≡ min word_max (length (contents self.now).waiting) };
 
     /// How many places are free, or 4,294,967,295 where there are more.
     fn free(&self) -> u32
-        ensures { result ≡ min 4294967295 (contents self.now).free };
+        ensures { result ≡ min word_max (contents self.now).free };
 }

@@ -1,6 +1,7 @@
 use Rattle.std.proofs.Common.{◌≡◌, ◌-◌, List, length, Option}
 use Rattle.std.specs.List.Sorted.{IsPermutation}
 use Rattle.wire.specs.declared.message.Message.{Message}
+use Rattle.channels.specs.Sizes.{pocket_max}
 use Rattle.channels.specs.Delay.{Handed, layered}
 use Rattle.channels.proofs.delay.DelayChannel.take.Given as goal
 
@@ -14,4 +15,4 @@ invariant-loop-m g l =
     × (l.self.replica ≡ l.initial.self.replica)
 
 abbrev pub decreases-loop-m : goal.decreases-loop-m
-decreases-loop-m g l = 64 - length l.self.pocket.items
+decreases-loop-m g l = pocket_max - length l.self.pocket.items
