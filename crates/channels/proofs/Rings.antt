@@ -1,7 +1,9 @@
 -- One element more at the end of a ring (`ring_push`), and one fewer at its start (`ring_pop`).
 use Rattle.std.proofs.Common.{◌≡◌, ℕ, ◌+◌, ◌-◌, ◌<◌, ◌≤◌, List, [], ◌∷◌, ◌++◌, length, get_or, take, drop, set, sym, ap, ◌∙◌, inl, inr, add-one, arith}
-use Rattle.std.proofs.lemmas.List.{append-nil, append_assoc, length-append, length-take, length-drop, set-append_left, set-append_right, take_all, take-append-le, take-set-le, drop-set-lt, drop-set-add, drop_all, drop_more, take_more, take_more_set}
+use Rattle.std.proofs.lemmas.List.{append-nil, append_assoc, length-append, length-set, length-take, length-drop, set-append_left, set-append_right, take_all, take-append-le, take-set-le, drop-set-lt, drop-set-add, drop_all, drop_more, take_more, take_more_set}
 use Rattle.std.proofs.Math.Seq.{take-set-lt}
+use Rattle.std.specs.List.Sorted.{IsPermutation}
+use Rattle.std.proofs.lemmas.List.Sorted.{IsPermutation-to_front}
 use Rattle.std.proofs.lemmas.Bool.{cases_lt}
 use Rattle.std.proofs.lemmas.Bool.Decides.{nat_tests}
 use Rattle.channels.specs.Ring.{ring, end_of, first_of}
@@ -44,7 +46,7 @@ ring_whole xs s n e =
 pub length_ring : {X : Type 0} (xs : List X) (s n : ℕ) → s ≤ length xs → n ≤ length xs → length (ring xs s n) ≡ n
 length_ring xs s n h m = simp (length-take, length-append, length-drop) (omega arith)
 
-pub ring_push : {X : Type 0} (xs : List X) (s n i : ℕ) (y : X) → s ≤ length xs → n < length xs → i ≡ end_of s n (length xs) → ring (set xs i y) s (n + 1) ≡ ring xs s n ++ y ∷ []
+ring_push : {X : Type 0} (xs : List X) (s n i : ℕ) (y : X) → s ≤ length xs → n < length xs → i ≡ end_of s n (length xs) → ring (set xs i y) s (n + 1) ≡ ring xs s n ++ y ∷ []
 ring_push xs s n i y h m e =
     elim (cases_lt n (length xs - s)) [
       | inl lt ↦ let at : i ≡ s + n = grind (arith, nat_tests) in
@@ -54,6 +56,13 @@ ring_push xs s n i y h m e =
           let lo : i < s = omega arith in
           ring_push_round xs s n i y h lo (omega arith)
     ]
+
+-- what is put into the ring waits in it beside what did
+pub ring_takes : {X : Type 0} (xs : List X) (s n i : ℕ) (y : X) → s ≤ length xs → n < length xs → i ≡ end_of s n (length xs) → IsPermutation (ring (set xs i y) s (n + 1)) (y ∷ ring xs s n)
+ring_takes xs s n i y h m e = rw (ring_push xs s n i y h m e) (IsPermutation-to_front _ _)
+
+pub ring_room : {X : Type 0} (xs : List X) (n i : ℕ) (y : X) → n < length xs → length xs - n ≡ length (set xs i y) - (n + 1) + 1
+ring_room xs n i y h = simp length-set (omega arith)
 
 pub ring_pop : {X : Type 0} (xs : List X) (s n i : ℕ) (x : X) → s ≤ length xs → 0 < n → n ≤ length xs → i ≡ first_of s (length xs) → x ≡ get_or xs i x → ring xs s n ≡ x ∷ ring xs (i + 1) (n - 1)
 ring_pop xs s n i x h p m e r =

@@ -1,5 +1,5 @@
 //! The delaying layer: over any channel, it keeps what goes to one replica back in a pocket.
-ghost use Rattle.std.specs.Prelude.{◌≡◌, ◌≤◌, [], length};
+ghost use Rattle.std.specs.Prelude.{◌≡◌, ◌≤◌, [], length, IfNone};
 ghost use Rattle.wire.specs.Channel.{Put, Taken};
 ghost use Rattle.channels.specs.Sizes.{pocket_max};
 
@@ -19,6 +19,7 @@ pub struct Delay<C> {
 }
 
 impl<C> Delay<C> {
+    ghost use Rattle.channels.specs.Queue.{Oldest};
     ghost use Rattle.channels.specs.Delay.{is_later, Delays};
 
     /// The pocket is empty.
@@ -39,6 +40,16 @@ impl<C> Delay<C> {
         Kind::try_from(m.kind).is_ok_and(|k| k.is_request())
             && m.replica == self.replica
             && self.pocket.len() < POCKET_MAX
+    }
+
+    // The pocket's oldest message leaves it.
+    #[tactic(auto, using(crate::proofs::Beside::first_taken))]
+    fn pop_oldest(&mut self) -> Option<Message>
+        ensures oldest { Oldest self.old.pocket.items self.new.pocket.items result }
+        ensures absent { IfNone result (self.new.pocket ≡ self.old.pocket) }
+        ensures same { (self.new.below ≡ self.old.below) × (self.new.replica ≡ self.old.replica) }
+    {
+        self.pocket.pop_at(0)
     }
 }
 
@@ -69,7 +80,7 @@ impl<C: Channel> Channel for Delay<C> {
             }
             self.pocket.push(m);
         }
-        self.pocket.pop_at(0)
+        self.pop_oldest()
     }
 
     fn waiting(&self) -> u32 {

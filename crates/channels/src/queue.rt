@@ -60,6 +60,7 @@ impl Channel for Queue<'_> {
 
     ghost contents = { contents_of };
 
+    #[tactic(auto, using(crate::proofs::Rings::ring_takes, crate::proofs::Rings::ring_room))]
     fn put(&mut self, m: Message) -> Result<(), Full> {
         if self.len >= self.cells.len() {
             return Err(Full);

@@ -76,7 +76,9 @@ impl Slots {
     pub fn new() -> Self
         ensures { contents_of result ≡ empty slots_max }
     {
-        Slots { table: [None; SLOTS_MAX] }
+        Slots {
+            table: [None; SLOTS_MAX],
+        }
     }
 }
 

@@ -52,6 +52,22 @@ impl Round {
 }
 
 impl Client {
+    /// A client as it opens, of any value.
+    // Not inlined, since the table of clients is then filled by whole copies, and not cleared first.
+    #[inline(never)]
+    pub fn open(initial: i32) -> Client
+        ensures { result ≡ opened_client initial }
+    {
+        Client {
+            out: false,
+            round: 0,
+            version: 0,
+            value: initial,
+            previous: initial,
+            phase: Phase::Idle,
+        }
+    }
+
     /// One round more, in the phase that awaits its replies.
     pub fn start(&mut self, round: Round)
         ensures { self.new ≡ started self.old round }
@@ -83,24 +99,6 @@ impl Client {
             previous: self.previous,
             marks: k.mark(client),
             note: 0,
-        }
-    }
-}
-
-impl Client {
-    // A client as it opens.
-    // Not inlined, since the table of clients is then filled by whole copies, and not cleared first.
-    #[inline(never)]
-    pub fn open(initial: i32) -> Client
-        ensures { result ≡ opened_client initial }
-    {
-        Client {
-            out: false,
-            round: 0,
-            version: 0,
-            value: initial,
-            previous: initial,
-            phase: Phase::Idle,
         }
     }
 }

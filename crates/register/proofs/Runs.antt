@@ -1,10 +1,18 @@
 -- One order more of a list, with its answer.
-use Rattle.std.proofs.Common.{◌≡◌, ℕ, ◌+◌, ◌<◌, List, [], ◌∷◌, ◌++◌, length, take, drop, set, sym, refl, ap, ◌∙◌, arith}
+use Rattle.std.proofs.Common.{◌≡◌, ℕ, ◌+◌, ◌<◌, List, [], ◌∷◌, ◌++◌, length, take, drop, set, None, sym, refl, ap, ◌∙◌, arith}
 use Rattle.std.proofs.lemmas.List.{length-drop, take_more_set, drop-drop, drop-set-lt, map_push}
 use Rattle.orders.specs.declared.order.Order.{Order}
 use Rattle.orders.specs.declared.answer.Answer.{Answer}
-use Rattle.register.specs.World.{World, Answered, sent_in}
+use Rattle.register.specs.World.{World, world, Answered, sent_in}
 use Rattle.laws.specs.Entries.{Entry}
+use Rattle.wire.specs.Channel.{Contents}
+use Rattle.settings.specs.declared.given.Settings.{Settings}
+use Rattle.settings.specs.declared.checked.Checked.{Checked}
+use Rattle.settings.specs.Checked.{given}
+use Rattle.register.specs.declared.register.Register.{Register}
+use Rattle.register.specs.Register.{opened}
+use Rattle.register.specs.Open.{opening_fault}
+use Rattle.register.specs.Session.{Session}
 use Rattle.register.specs.Past.{start, more, Ran, Filled}
 
 -- nothing was done yet
@@ -31,6 +39,11 @@ module _ {B : Type 0} where
 -- the answers of the orders done stand in the first places
 abbrev pub FilledBy : World → List Order → World → ℕ → List Answer → List Answer → Type 0
 FilledBy v os w i before after = Filled (λ rs. Ran v os rs w) i before after
+
+-- what a register does that was made by settings which passed is a session of them
+pub session_ran : (r : Register) (k : Checked) (s : Settings) (x : Contents) (os : List Order) (before after : List Answer) (w : World) → r ≡ opened k → opening_fault s x ≡ None → given k ≡ s
+    → Filled (λ rs. Ran (world r x) os rs w) (length os) before after → Filled (λ rs. Session s x os rs w) (length os) before after
+session_ran r k s x os before after w e f g h = record { said = record { settings = k; accepted = f; passed = g; ran = rw e at h.said }; later = h.later; enough = h.enough }
 
 pub filled_none : (v : World) (rs : List Answer) → FilledBy v [] v 0 rs rs
 filled_none v rs = record { said = ran_none v; later = refl; enough = omega arith }

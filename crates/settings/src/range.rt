@@ -3,7 +3,9 @@ ghost use Rattle.std.specs.Prelude.{◌≡◌};
 ghost use Rattle.settings.specs.Range.{in_ranges, value_in_range};
 
 use crate::given::Settings;
-use crate::limits::{GROUPS_MAX, READERS_MAX, REPLICAS_MAX, REPLICAS_MIN, TOLERATED_MAX, VALUE_MAX};
+use crate::limits::{
+    GROUPS_MAX, READERS_MAX, REPLICAS_MAX, REPLICAS_MIN, TOLERATED_MAX, VALUE_MAX,
+};
 
 // Is each number within its range?
 pub(crate) fn in_ranges(s: &Settings) -> bool

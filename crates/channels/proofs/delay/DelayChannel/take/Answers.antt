@@ -1,7 +1,7 @@
 use Rattle.std.proofs.Common.{sym, ◌∙◌, arith}
 use Rattle.std.proofs.lemmas.List.Sorted.{IsPermutation-refl, IsPermutation-append_left, IsPermutation-trans, IsPermutation-sym}
 use Rattle.channels.specs.Delay.{given, delayed, last}
-use Rattle.channels.proofs.Beside.{put_beside, first_taken, take_beside}
+use Rattle.channels.proofs.Beside.{put_beside, take_beside}
 use Rattle.channels.proofs.delay.DelayChannel.take.Goals as goal
 
 pub returns-then-not-is_later-clause-meets : goal.returns-then-not-is_later-clause-meets
@@ -26,9 +26,9 @@ loop-m-preserved g c =
 
 pub returns : goal.returns
 returns g c =
-    let p = c.pop_at.ensures in
-    let o = first_taken c.loop-m.self.pocket.items c.pop_at.new.self.items c.pop_at.result p.value p.items in
+    let p = c.pop_oldest.ensures in
+    let x = c.in_default.ensures in
     record {
-      meets = take_beside _ _ _ c.loop-m.self.pocket c.pop_at.new.self _ _ _ c.pop_at.result c.loop-m.invariant.0 c.loop-m.invariant.1 c.in_default.ensures c.loop-m.self.few o p.absent;
-      gives = record { handed = c.loop-m.invariant.2 _ _ _ (last _ _ _ _ _ c.in_default.ensures.0 c.in_default.ensures.1 o); replica = c.loop-m.invariant.3 };
+      meets = rw p.same.0 (take_beside _ _ _ c.loop-m.self.pocket c.pop_oldest.new.self.pocket _ _ _ c.pop_oldest.result c.loop-m.invariant.0 c.loop-m.invariant.1 x c.loop-m.self.few p.oldest p.absent);
+      gives = record { handed = rw p.same.0 (c.loop-m.invariant.2 _ _ _ (last _ _ _ _ _ x.0 x.1 p.oldest)); replica = p.same.1 ∙ c.loop-m.invariant.3 };
     }
