@@ -42,7 +42,8 @@ Delays below replica d = (d.below ≡ below) × (d.replica ≡ replica) × (d.po
 module _ {C : Type 0} (below : C → Contents) where
   -- what a layer means: what is below, and its pocket
   abbrev pub layered : Delay C → Contents
-  layered d = holding ((below d.below).waiting ++ d.pocket.items) ((below d.below).free + (pocket_max - length d.pocket.items))
+  layered d =
+      holding ((below d.below).waiting ++ d.pocket.items) ((below d.below).free + (pocket_max - length d.pocket.items))
 
   -- where a message goes in, the same replica being delayed
   pub record Enters {U F : Type 0} (d : Delay C) (m : Message) (d' : Delay C) (r : Result U F) : Type 0 where

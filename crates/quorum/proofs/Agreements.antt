@@ -11,7 +11,9 @@ use Rattle.std.specs.List.{AllByRecursion}
 use Rattle.quorum.specs.declared.slip.Reading.{Reading}
 use Rattle.quorum.specs.Agree.{all_have, common_marks, all_at, agree, agreed, some_set}
 use Rattle.quorum.specs.Masks.{covers}
-use Rattle.quorum.proofs.Digits.{digit, digit_and, within_from_digits, ones_in_lem, sum_to, mask_of, mask_below, digit_mask, ones_mask, ones_le_sum}
+use Rattle.std.specs.Int.{bit_at}
+use Rattle.std.proofs.lemmas.Nat.Bits.{bit_at_and}
+use Rattle.quorum.proofs.Digits.{within_from_digits, ones_in_lem, sum_to, mask_of, mask_below, digit_mask, ones_mask, ones_le_sum}
 use Rattle.quorum.proofs.Sets.{chosen, chosen_map, chosen_le_count, number_from_some, some_from_number, set_from_some, some_from_set}
 
 -- a set of at least `need` of the replies, all at version h, with at least `least` marks in common
@@ -54,17 +56,17 @@ flag_below ys k = grind arith
 common_is_sum : (ys : List Reading) → common_marks ys ≡ sum_to 8 (flag ys)
 common_is_sum ys = omega arith
 
-all_have_from_mask : (m k : ℕ) (ys : List Reading) → digit k m ≡ 1 → AllByRecursion (λ y. bit_and y.marks m ≡ m) ys → all_have ys k ≡ true
+all_have_from_mask : (m k : ℕ) (ys : List Reading) → bit_at m k ≡ 1 → AllByRecursion (λ y. bit_and y.marks m ≡ m) ys → all_have ys k ≡ true
 all_have_from_mask m k [] e a = refl
 all_have_from_mask m k (y ∷ ys) e a =
-    let i : digit k (bit_and y.marks m) ≡ digit k m = ap (digit k) a.0 in
-    let b : digit k y.marks ≡ 1 = omega (arith, digit_and k y.marks m) in
+    let i : bit_at (bit_and y.marks m) k ≡ bit_at m k = ap (λ n. bit_at n k) a.0 in
+    let b : bit_at y.marks k ≡ 1 = omega (arith, bit_at_and y.marks m k) in
     let r : all_have ys k ≡ true = all_have_from_mask m k ys e a.1 in
     grind (arith, nat_tests)
 
-digit_le_flag : (m k : ℕ) (ys : List Reading) → AllByRecursion (λ y. bit_and y.marks m ≡ m) ys → digit k m ≤ flag ys k
+digit_le_flag : (m k : ℕ) (ys : List Reading) → AllByRecursion (λ y. bit_and y.marks m ≡ m) ys → bit_at m k ≤ flag ys k
 digit_le_flag m k ys a =
-    let f : digit k m ≡ 1 → all_have ys k ≡ true = λ e. all_have_from_mask m k ys e a in grind arith
+    let f : bit_at m k ≡ 1 → all_have ys k ≡ true = λ e. all_have_from_mask m k ys e a in grind arith
 
 pub set_from_mask : (xs : List Reading) (h need least : ℕ) → MaskAgreement xs h need least → Agreement xs h need least
 set_from_mask xs h need least g =
@@ -86,7 +88,7 @@ set_from_mask xs h need least g =
 
 -- ---- from a set to a mask
 
-each_has : (ys : List Reading) (k : ℕ) → all_have ys k ≡ true → AllByRecursion (λ y. digit k y.marks ≡ 1) ys
+each_has : (ys : List Reading) (k : ℕ) → all_have ys k ≡ true → AllByRecursion (λ y. bit_at y.marks k ≡ 1) ys
 each_has [] k t = tt
 each_has (y ∷ ys) k t = (grind (arith, nat_tests), each_has ys k (grind (arith, nat_tests)))
 
@@ -94,11 +96,11 @@ rest_have : (y : Reading) (ys : List Reading) (k : ℕ) → all_have (y ∷ ys) 
 rest_have y ys k t = grind (arith, nat_tests)
 
 -- the mask of marks that all the replies have is within the marks of each
-each_has_mask : (m : ℕ) (ys : List Reading) → m < 256 → ((i : ℕ) → i < 8 → digit i m ≡ 1 → all_have ys i ≡ true) → AllByRecursion (λ y. bit_and y.marks m ≡ m) ys
+each_has_mask : (m : ℕ) (ys : List Reading) → m < 256 → ((i : ℕ) → i < 8 → bit_at m i ≡ 1 → all_have ys i ≡ true) → AllByRecursion (λ y. bit_and y.marks m ≡ m) ys
 each_has_mask m [] small f = tt
 each_has_mask m (y ∷ ys) small f = (
   within_from_digits 8 y.marks m small
-      (λ i k. let g : digit i m ≡ 1 → digit i y.marks ≡ 1 = λ e. (each_has (y ∷ ys) i (f i k e)).0 in grind arith),
+      (λ i k. let g : bit_at m i ≡ 1 → bit_at y.marks i ≡ 1 = λ e. (each_has (y ∷ ys) i (f i k e)).0 in grind arith),
   each_has_mask m ys small (λ i k e. rest_have y ys i (f i k e)),
 )
 
@@ -115,7 +117,7 @@ mask_from_set xs h need least g =
     let m : ℕ = mask_of 8 (flag ys) in
     let small : m < 256 = mask_below 8 (flag ys) (flag_below ys) in
     let sub : AllByRecursion (λ y. bit_and y.marks m ≡ m) ys =
-    each_has_mask m ys small (λ i k e. let f : digit i m ≡ flag ys i = digit_mask 8 (flag ys) (flag_below ys) i k in grind arith) in
+    each_has_mask m ys small (λ i k e. let f : bit_at m i ≡ flag ys i = digit_mask 8 (flag ys) (flag_below ys) i k in grind arith) in
     record {
       mask = m;
       small = small;

@@ -1,15 +1,9 @@
 -- Which replicas a list of slips is from: by std's test, and when a slip is added.
-use Rattle.std.proofs.Common.{◌≡◌, ℕ, ◌+◌, min, true, false, not, ◌||◌, eqb, ltb, List, [], ◌∷◌, ◌++◌, length, take, set, sym, refl, ap, ◌∙◌, subst, inl, inr, arith}
+use Rattle.std.proofs.Common.{◌≡◌, ℕ, ◌+◌, min, true, false, not, eqb, ltb, List, [], ◌∷◌, ◌++◌, length, take, set, sym, refl, ap, ◌∙◌, subst, inl, inr, arith}
 use Rattle.std.proofs.lemmas.Bool.Decides.{nat_tests}
 use Rattle.std.proofs.lemmas.Bool.{cases_lt, le-ltb, ltb-true, not-true, and_parts, and_right}
 use Rattle.std.proofs.lemmas.List.{take_more_set}
-use Rattle.std.specs.List.{list_any}
 use Rattle.quorum.specs.Tally.{from, adds, Once}
-
--- the same as std's test of any element
-pub from_is_any : {X : Type 0} (f : X → ℕ) (i : ℕ) (xs : List X) → list_any (λ x. eqb (f x) i) xs ≡ from f i xs
-from_is_any f i [] = refl
-from_is_any f i (x ∷ xs) = ap (λ r. eqb (f x) i || r) (from_is_any f i xs)
 
 from_push : {X : Type 0} (f : X → ℕ) (i : ℕ) (xs : List X) (y : X) → from f i xs ≡ false → eqb (f y) i ≡ false → from f i (xs ++ y ∷ []) ≡ false
 from_push f i [] y a e = grind arith

@@ -10,7 +10,9 @@ use Rattle.std.proofs.lemmas.Bool.{and_parts, and_from, and_cases, leb-true, leb
 use Rattle.quorum.specs.declared.slip.Reading.{Reading}
 use Rattle.quorum.specs.Agree.{agreed}
 use Rattle.quorum.specs.Masks.{covers, used_at, largest, mask_agrees}
-use Rattle.quorum.proofs.Digits.{digit, digit_or, digits_from_within, within_from_digits}
+use Rattle.std.specs.Int.{bit_at}
+use Rattle.std.proofs.lemmas.Nat.Bits.{bit_at_or}
+use Rattle.quorum.proofs.Digits.{digits_from_within, within_from_digits}
 use Rattle.quorum.proofs.Agreements.{mask_from_agreed, agreed_from_mask}
 
 -- a larger a needs no more replies
@@ -58,17 +60,17 @@ mask_agrees_from_agreed s t v h extra xs e =
 abbrev used_from : ℕ → ℕ → List Reading → ℕ
 used_from h u xs = fold (λ a y. cond (eqb y.version h) (bit_or a y.marks) a) u xs
 
-used_grows : (h i u : ℕ) (y : Reading) → digit i u ≤ digit i (cond (eqb y.version h) (bit_or u y.marks) u)
-used_grows h i u y = let e = digit_or i u y.marks in grind arith
+used_grows : (h i u : ℕ) (y : Reading) → bit_at u i ≤ bit_at (cond (eqb y.version h) (bit_or u y.marks) u) i
+used_grows h i u y = let e = bit_at_or u y.marks i in grind arith
 
-used_keeps : (h i : ℕ) (u : ℕ) (xs : List Reading) → digit i u ≤ digit i (used_from h u xs)
+used_keeps : (h i : ℕ) (u : ℕ) (xs : List Reading) → bit_at u i ≤ bit_at (used_from h u xs) i
 used_keeps h i u [] = omega arith
 used_keeps h i u (y ∷ ys) =
     let w : ℕ = cond (eqb y.version h) (bit_or u y.marks) u in
     omega (arith, used_grows h i u y, used_keeps h i w ys)
 
 -- a mask that some reply covers is of marks in use
-used_from_cover : (h m i u : ℕ) (xs : List Reading) → 0 < count_by (covers h m) xs → digit i m ≤ digit i (used_from h u xs)
+used_from_cover : (h m i u : ℕ) (xs : List Reading) → 0 < count_by (covers h m) xs → bit_at m i ≤ bit_at (used_from h u xs) i
 used_from_cover h m i u [] k = absurd (let z : ⊥ = omega arith in z)
 used_from_cover h m i u (y ∷ ys) k =
     let w : ℕ = cond (eqb y.version h) (bit_or u y.marks) u in
@@ -78,7 +80,7 @@ used_from_cover h m i u (y ∷ ys) k =
           let sub : bit_and y.marks m ≡ m = grind (arith, nat_tests) in
           let at : eqb y.version h ≡ true = p.0 in
           let is : w ≡ bit_or u y.marks = grind arith in
-          omega (arith, digits_from_within y.marks m sub i, digit_or i u y.marks, ap (digit i) is, used_keeps h i w ys)
+          omega (arith, digits_from_within y.marks m sub i, bit_at_or u y.marks i, ap (λ n. bit_at n i) is, used_keeps h i w ys)
       | inr e ↦
           used_from_cover h m i w ys (omega (arith, sum_by-cons (λ z. cond (covers h m z) 1 0) y ys, ap (λ b. cond {A = ℕ} b 1 0) e))
     ]

@@ -1,13 +1,13 @@
 -- Counting slips once per replica.
-use Rattle.std.specs.Prelude.{◌≡◌, ℕ, ◌+◌, min, Bool, false, cond, not, ◌&&◌, ◌||◌, List, [], ◌∷◌, length, take, ◌==◌, nat_lt, slice_set}
+use Rattle.std.specs.Prelude.{◌≡◌, ℕ, ◌+◌, min, Bool, false, cond, not, ◌&&◌, List, [], ◌∷◌, length, take, ◌==◌, nat_lt, slice_set}
 use Rattle.std.specs.Borrow.{MutBor}
+use Rattle.std.specs.List.{list_any}
 use Rattle.quorum.specs.declared.slip.Slip.{Ghosts as SlipOf}
 use Rattle.quorum.specs.declared.tally.Tally.{Tally}
 
 -- one of the slips is from the replica i
 abbrev pub from : {X : Type 0} → (X → ℕ) → ℕ → List X → Bool
-from sent_by i [] = false
-from sent_by i (x ∷ xs) = sent_by x == i || from sent_by i xs
+from sent_by i xs = list_any (λ x. sent_by x == i) xs
 
 -- the slip s is added to the first n places: its replica is not counted yet, and a place is left
 abbrev pub adds : {X : Type 0} → (X → ℕ) → List X → ℕ → X → Bool

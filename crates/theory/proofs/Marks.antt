@@ -1,7 +1,8 @@
 -- Masks of marks, one within another: ends in `or_within`.
-use Rattle.std.proofs.Common.{◌≡◌, ℕ, ◌+◌, ◌*◌, ◌/◌, ◌%◌, min, max, sym, ap, ◌∙◌, subst, arith}
-use lib.Arith.{bin_ind}
-use lib.Bits.{and_comm, and_self, and_step, bit_and, bit_or, or_comm, or_step}
+use Rattle.std.proofs.Common.{ℕ, sym, ap, ◌∙◌, subst, arith}
+use lib.Bits.{and_comm, and_self, bit_and, bit_or, or_comm}
+use Rattle.std.specs.Int.{bit_at}
+use Rattle.std.proofs.lemmas.Nat.Bits.{bit_at_and, bit_at_or, same_from_bits}
 use Rattle.std.proofs.lemmas.Nat.{and_assoc, and_or_self}
 use Rattle.theory.proofs.Sets.{Within}
 
@@ -18,16 +19,8 @@ pub within_or : (a b : ℕ) → Within a (bit_or a b)
 within_or a b = subst (Within a) (or_comm b a) (within_or_right b a)
 
 pub or_within : (a b c : ℕ) → Within a c → Within b c → Within (bit_or a b) c
-or_within =
-    bin_ind (λ n. (b c : ℕ) → Within n c → Within b c → Within (bit_or n b) c) (λ b c p q. q)
-    (λ n ih b c p q.
-    let s0 : bit_or n b ≡ bit_or (n / 2) (b / 2) * 2 + max (n % 2) (b % 2) = or_step n b in
-    let s1 : bit_and n c ≡ bit_and (n / 2) (c / 2) * 2 + min (n % 2) (c % 2) = and_step n c in
-    let s2 : bit_and b c ≡ bit_and (b / 2) (c / 2) * 2 + min (b % 2) (c % 2) = and_step b c in
-    let s3 : bit_and (bit_or n b) c ≡ bit_and (bit_or n b / 2) (c / 2) * 2 + min (bit_or n b % 2) (c % 2) = and_step (bit_or n b) c in
-    let e1 : bit_and n c ≡ n = p in
-    let e2 : bit_and b c ≡ b = q in
-    let h : bit_or n b / 2 ≡ bit_or (n / 2) (b / 2) = omega arith in
-    let k : bit_and (bit_or (n / 2) (b / 2)) (c / 2) ≡ bit_or (n / 2) (b / 2) = ih (b / 2) (c / 2) (omega arith) (omega arith) in
-    let k2 : bit_and (bit_or n b / 2) (c / 2) ≡ bit_or n b / 2 = rw h k in
-    omega arith)
+or_within a b c p q =
+    same_from_bits _ _ (λ i.
+    let of_a = ap (λ n. bit_at n i) p in
+    let of_b = ap (λ n. bit_at n i) q in
+    omega (arith, bit_at_and (bit_or a b) c i, bit_at_or a b i, of_a, of_b, bit_at_and a c i, bit_at_and b c i))

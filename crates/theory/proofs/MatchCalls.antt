@@ -1,9 +1,9 @@
 -- Calls: one that is accepted is a step of the model, as is one that is sent back. It ends in `called_reaches`.
-use Rattle.std.proofs.Common.{◌≡◌, ℕ, zero, suc, ◌+◌, ◌-◌, ◌*◌, ◌%◌, ◌^◌, ◌<◌, ◌≤◌, Bool, true, false, cond, eqb, ltb, List, [], ◌∷◌, ◌++◌, map, length, get_or, set, ℤ, Some, None, Option, sym, refl, ap, ◌∙◌, subst, inl, inr, mul-le-mul_right, arith, lit<, lit≤}
+use Rattle.std.proofs.Common.{◌≡◌, ℕ, zero, suc, ◌+◌, ◌-◌, ◌*◌, ◌%◌, ◌^◌, ◌<◌, ◌≤◌, Bool, true, false, eqb, ltb, List, [], ◌∷◌, ◌++◌, map, length, get_or, set, ℤ, Some, None, Option, sym, refl, ap, ◌∙◌, subst, inl, inr, mul-le-mul_right, arith, lit<, lit≤}
 use Rattle.std.specs.List.{AllByRecursion}
 use Rattle.std.specs.List.Sorted.{IsPermutation}
 use Rattle.std.proofs.lemmas.List.{map-append, length-replicate, length-set}
-use Rattle.std.proofs.lemmas.Bool.{ltb-false, cases_eq, ne_eqb, eq-eqb, cond_both, cond-true, cond-false}
+use Rattle.std.proofs.lemmas.Bool.{ltb-false, cases_eq, ne_eqb, eq-eqb, cond_both}
 use Rattle.std.proofs.lemmas.Bool.Decides.{nat_tests}
 use Rattle.std.proofs.lemmas.Nat.{pow_below, mod_below}
 use Rattle.theory.proofs.Words.{clients_max, replicas_max, rounds_max, Message, Order, Write, Read, Tell, ReplicaOut, ClientOut, Refusal, Answer, Accepted, Refused, no_receipts, no_readings, blank_receipt, blank_reading, Checked, Phase, Idle, Writing, Asking, Due, Telling, Client, Register, client_at, with_client, blank_client, mark_of, World, Called, sent_by, Entry}
@@ -148,26 +148,19 @@ count_below : (p : ℕ → Bool) (i n : ℕ) → n ≤ i → model.out_count (pu
 count_below p i zero l = refl
 count_below p i (suc n) l =
     let e : eqb n i ≡ false = ne_eqb n i (λ q. omega arith) in
-    let s : put p i true n ≡ p n = cond-false (eqb n i) true (p n) e in
-    let ih : model.out_count (put p i true) n ≡ model.out_count p n = count_below p i n (omega arith) in
-    let c : cond {A = ℕ} (put p i true n) 1 0 ≡ cond (p n) 1 0 = ap (λ q. cond {A = ℕ} q 1 0) s in
-    omega arith
+    simp e (omega (arith, count_below p i n (omega arith)))
 
 count_put : (p : ℕ → Bool) (i n : ℕ) → i < n → p i ≡ false → model.out_count (put p i true) n ≡ model.out_count p n + 1
 count_put p i zero l f = absurd (omega arith)
 count_put p i (suc n) l f =
     elim (cases_eq n i) [
       | inl q ↦
-          let s : put p i true n ≡ true = cond-true (eqb n i) true (p n) (eq-eqb n i q) in
-          let c : cond {A = ℕ} (put p i true n) 1 0 ≡ 1 = ap (λ a. cond {A = ℕ} a 1 0) s in
-          let d : cond {A = ℕ} (p n) 1 0 ≡ 0 = ap (λ a. cond {A = ℕ} a 1 0) (ap p q ∙ f) in
-          let g : model.out_count (put p i true) n ≡ model.out_count p n = count_below p i n (omega arith) in
-          omega arith
+          let e : eqb n i ≡ true = eq-eqb n i q in
+          let g : p n ≡ false = ap p q ∙ f in
+          simp (e, g) (omega (arith, count_below p i n (omega arith)))
       | inr q ↦
-          let s : put p i true n ≡ p n = cond-false (eqb n i) true (p n) (ne_eqb n i q) in
-          let c : cond {A = ℕ} (put p i true n) 1 0 ≡ cond (p n) 1 0 = ap (λ a. cond {A = ℕ} a 1 0) s in
-          let g : model.out_count (put p i true) n ≡ model.out_count p n + 1 = count_put p i n (omega (arith, q)) f in
-          omega arith
+          let e : eqb n i ≡ false = ne_eqb n i q in
+          simp e (omega (arith, count_put p i n (omega (arith, q)) f))
     ]
 
 replica_passed : (r : Register) (i : ℕ) → refuse.replica_out_refusal r i ≡ None

@@ -1,14 +1,13 @@
 -- Tables as lists and as functions, and lists of waiting messages up to their order. It ends in `shuffled_same`.
-use Rattle.std.proofs.Common.{◌≡◌, ℕ, ◌<◌, eqb, ◌⊎◌, List, [], ◌∷◌, ◌++◌, map, length, get_or, set, sym, refl, subst, inl, inr}
+use Rattle.std.proofs.Common.{ℕ, ◌<◌, ◌⊎◌, List, [], ◌∷◌, ◌++◌, map, length, get_or, set, sym, refl, subst, inl, inr}
 use Rattle.std.specs.List.{AllByRecursion}
 use Rattle.std.specs.List.Sorted.{IsPermutation}
-use Rattle.std.proofs.lemmas.List.{get_or-set_same, get_or-set_other}
-use Rattle.std.proofs.lemmas.Bool.{cases_Bool, eqb-true, eqb-false}
 use Rattle.std.proofs.lemmas.List.Sorted.{IsPermutation-sym}
 use Rattle.theory.proofs.Words.{Message}
 use Rattle.theory.proofs.Lists.{All-weaker, All-permutation}
 use Rattle.theory.proofs.Members.{Among}
 use Rattle.theory.proofs.Model.{put, Msg, Same}
+use Rattle.theory.proofs.Tables.{put_case, put_three, table_set}
 use Rattle.theory.proofs.Matching.{msg_of}
 
 -- ---- a table with one entry changed, as a list and as a function
@@ -16,13 +15,9 @@ use Rattle.theory.proofs.Matching.{msg_of}
 -- what holds of each entry beside those of two functions holds after a change of one entry in all three
 pub each_set_two : {A B C : Type 0} (P : A → B → C → Type 0) (n : ℕ) (xs : List A) (i : ℕ) (a d : A) (f : ℕ → B) (y : B) (g : ℕ → C) (z : C) → i < length xs → P a y z
     → ((j : ℕ) → j < n → P (get_or xs j d) (f j) (g j)) → (j : ℕ) → j < n → P (get_or (set xs i a) j d) (put f i y j) (put g i z j)
-each_set_two P n xs i a d f y g z l p h j k =
-    elim (cases_Bool (eqb j i)) [
-      | inl e ↦
-          let t : j ≡ i = eqb-true j i e in
-          simp e (simp t (simp (get_or-set_same xs i a d l) p))
-      | inr e ↦ simp e (simp (get_or-set_other xs i j a d (eqb-false j i e)) (h j k))
-    ]
+each_set_two P n xs i a d f y g z l p h j =
+    subst (λ t. j < n → P (t j) (put f i y j) (put g i z j)) (sym (table_set xs i a d l))
+    (put_three (λ q x u v. q < n → P x u v) (λ q. get_or xs q d) f g i a y z j (λ _ _. p) (λ _. h j))
 
 pub each_set : {A B : Type 0} (P : A → B → Type 0) (n : ℕ) (xs : List A) (i : ℕ) (a d : A) (f : ℕ → B) (y : B) → i < length xs → P a y
     → ((j : ℕ) → j < n → P (get_or xs j d) (f j)) → (j : ℕ) → j < n → P (get_or (set xs i a) j d) (put f i y j)
@@ -31,13 +26,9 @@ each_set P n xs i a d f y = each_set_two (λ x b (_ : Unit {0}). P x b) n xs i a
 -- the same where the function stays: the new entry fits the one of the function at its place
 pub each_set_beside : {A B : Type 0} (P : A → B → Type 0) (n : ℕ) (xs : List A) (i : ℕ) (a d : A) (f : ℕ → B) → i < length xs → P a (f i)
     → ((j : ℕ) → j < n → P (get_or xs j d) (f j)) → (j : ℕ) → j < n → P (get_or (set xs i a) j d) (f j)
-each_set_beside P n xs i a d f l p h j k =
-    elim (cases_Bool (eqb j i)) [
-      | inl e ↦
-          let t : j ≡ i = eqb-true j i e in
-          simp t (simp (get_or-set_same xs i a d l) p)
-      | inr e ↦ simp (get_or-set_other xs i j a d (eqb-false j i e)) (h j k)
-    ]
+each_set_beside P n xs i a d f l p h j =
+    subst (λ t. j < n → P (t j) (f j)) (sym (table_set xs i a d l))
+    (put_case (λ q x. q < n → P x (f q)) (λ q. get_or xs q d) i a j (λ _ _. p) (λ _. h j))
 
 -- ---- messages that wait
 

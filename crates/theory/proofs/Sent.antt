@@ -3,7 +3,7 @@ use Rattle.std.proofs.Common.{◌≡◌, ℕ, zero, suc, ◌+◌, ◌*◌, ◌�
 use Rattle.std.specs.List.{AllByRecursion}
 use Rattle.std.proofs.lemmas.List.Sums.{sum_by_push}
 use Rattle.std.proofs.lemmas.Bool.Decides.{nat_tests}
-use Rattle.std.proofs.lemmas.Bool.{cases_Bool, cond_both, lt-leb, and_left, or_parts, eqb-true, eqb-false, eq-eqb, ne_eqb}
+use Rattle.std.proofs.lemmas.Bool.{cases_Bool, cond_both, lt-leb, and_left, or_parts}
 use Rattle.std.specs.Option.{option_to_list}
 use Rattle.theory.proofs.Words.{Message, Order, Write, Read, Tell, Carry, ReplicaOut, ClientOut, Refusal, Unknown, Answer, Refused, listed_as, number_of, Row, record_of, Checked, Register, opened, row_at, client_at, is_request, is_stray, is_lost, handled_reply, World, world, Answered, Called, sent_by, sent_in, empty, Entry, Step, Past, start, more, code, own_messages}
 use Rattle.replica.specs.Replica.{replied, reply_from, fresh}
@@ -38,11 +38,7 @@ cond_same : (b : Bool) → ◌≡◌ {A = ℕ} (cond b 0 0) 0
 cond_same b = elim (cases_Bool b) [ inl e ↦ simp e | inr e ↦ simp e ]
 
 eqb_turned : (a b : ℕ) → eqb a b ≡ eqb b a
-eqb_turned a b =
-    elim (cases_Bool (eqb b a)) [
-      | inl e ↦ eq-eqb a b (sym (eqb-true b a e)) ∙ sym e
-      | inr e ↦ ne_eqb a b (λ p. eqb-false b a e (sym p)) ∙ sym e
-    ]
+eqb_turned a b = grind (arith, nat_tests)
 
 copies_own : (c : ℕ) (m : Message) (n : ℕ) → count_by (is_own c) (copies m n) ≡ cond (is_own c m) n 0
 copies_own c m zero = sym (cond_same (is_own c m))
