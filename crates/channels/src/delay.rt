@@ -2,6 +2,7 @@
 ghost use Rattle.std.specs.Prelude.{◌≡◌, ◌≤◌, [], length, IfNone};
 ghost use Rattle.wire.specs.Channel.{Put, Taken};
 ghost use Rattle.channels.specs.Sizes.{pocket_max};
+ghost use Rattle.channels.specs.Queue.{Oldest};
 
 use crate::sizes::POCKET_MAX;
 use arrayvec::ArrayVec;
@@ -19,7 +20,6 @@ pub struct Delay<C> {
 }
 
 impl<C> Delay<C> {
-    ghost use Rattle.channels.specs.Queue.{Oldest};
     ghost use Rattle.channels.specs.Delay.{is_later, Delays};
 
     /// The pocket is empty.
@@ -41,16 +41,15 @@ impl<C> Delay<C> {
             && m.replica == self.replica
             && self.pocket.len() < POCKET_MAX
     }
+}
 
-    // The pocket's oldest message leaves it.
-    #[tactic(auto, using(crate::proofs::Beside::first_taken))]
-    fn pop_oldest(&mut self) -> Option<Message>
-        ensures oldest { Oldest self.old.pocket.items self.new.pocket.items result }
-        ensures absent { IfNone result (self.new.pocket ≡ self.old.pocket) }
-        ensures same { (self.new.below ≡ self.old.below) × (self.new.replica ≡ self.old.replica) }
-    {
-        self.pocket.pop_at(0)
-    }
+// The oldest message leaves the pocket; none leaves it where it is empty.
+#[tactic(auto, using(crate::proofs::Beside::first_taken))]
+fn pop_oldest(pocket: &mut ArrayVec<Message, POCKET_MAX>) -> Option<Message>
+    ensures oldest { Oldest pocket.old.items pocket.new.items result }
+    ensures none { IfNone result (pocket.new ≡ pocket.old) }
+{
+    pocket.pop_at(0)
 }
 
 impl<C: Channel> Channel for Delay<C> {
@@ -80,7 +79,7 @@ impl<C: Channel> Channel for Delay<C> {
             }
             self.pocket.push(m);
         }
-        self.pop_oldest()
+        pop_oldest(&mut self.pocket)
     }
 
     fn waiting(&self) -> u32 {

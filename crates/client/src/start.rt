@@ -52,7 +52,7 @@ impl Round {
 }
 
 impl Client {
-    /// A client as it opens, of any value.
+    /// A client as it opens: it knows the initial value as version 0.
     // Not inlined, since the table of clients is then filled by whole copies, and not cleared first.
     #[inline(never)]
     pub fn open(initial: i32) -> Client

@@ -3,14 +3,11 @@ use Rattle.std.proofs.Common.{◌≡◌, ℕ, ◌+◌, min, true, false, not, eq
 use Rattle.std.proofs.lemmas.Bool.Decides.{nat_tests}
 use Rattle.std.proofs.lemmas.Bool.{cases_lt, le-ltb, ltb-true, not-true, and_parts, and_right}
 use Rattle.std.proofs.lemmas.List.{take_more_set}
+use Rattle.std.proofs.lemmas.List.Folds.{list_any-append}
 use Rattle.quorum.specs.Tally.{from, adds, Once}
 
 from_push : {X : Type 0} (f : X → ℕ) (i : ℕ) (xs : List X) (y : X) → from f i xs ≡ false → eqb (f y) i ≡ false → from f i (xs ++ y ∷ []) ≡ false
-from_push f i [] y a e = grind arith
-from_push f i (x ∷ xs) y a e =
-    let h : eqb (f x) i ≡ false = grind arith in
-    let r : from f i (xs ++ y ∷ []) ≡ false = from_push f i xs y (grind arith) e in
-    grind arith
+from_push f i xs y a e = rw (list_any-append (λ x. eqb (f x) i) xs (y ∷ []), a, e) refl
 
 -- a slip of a new replica leaves each named once
 pub once_push : {X : Type 0} (f : X → ℕ) (xs : List X) (y : X) → Once f xs → from f (f y) xs ≡ false → Once f (xs ++ y ∷ [])

@@ -42,7 +42,7 @@ impl Row {
         self.previous = record.previous;
         self.marks = record.marks;
         self.note = record.note;
-        // Of the rounds only the client's can be another, so the 64 others are not copied back.
+        // Of the rounds only the client's can be another, so the others are not copied back.
         if let Some(round) = record.rounds.get(client) {
             self.rounds[client] = *round;
         }

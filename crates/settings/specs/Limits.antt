@@ -1,5 +1,5 @@
 -- The limits that several crates name, under the names of src/limits.rt in small letters.
-use Rattle.std.specs.Prelude.{ℕ}
+use Rattle.std.specs.Prelude.{ℕ, ◌+◌}
 
 abbrev pub replicas_min : ℕ
 replicas_min = 4
@@ -18,7 +18,7 @@ readers_max = 64
 
 -- the writer, and the most readers
 abbrev pub clients_max : ℕ
-clients_max = 65
+clients_max = readers_max + 1
 
 -- the largest value; the smallest is its negative
 abbrev pub value_max : ℕ

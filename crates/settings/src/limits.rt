@@ -16,7 +16,7 @@ pub const GROUPS_MAX: u32 = 7;
 pub const READERS_MAX: u32 = 64;
 
 /// The most clients: the writer, and the most readers.
-pub const CLIENTS_MAX: u32 = 65;
+pub const CLIENTS_MAX: u32 = READERS_MAX + 1;
 
 /// The largest value; the smallest is its negative.
 pub const VALUE_MAX: i32 = 9_999_999;

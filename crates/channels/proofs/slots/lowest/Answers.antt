@@ -1,4 +1,4 @@
--- What the search leaves to show of `lowest`.
+-- One slot more is looked at.
 use Rattle.std.proofs.Common.{◌+◌, refl}
 use mathlib.Core.Path.{subst⁻¹}
 use Rattle.channels.specs.Table.{Found}

@@ -1,4 +1,4 @@
--- The invariant of the loop of `lowest`.
+-- The best so far is the lowest of the slots below i.
 use Rattle.channels.specs.Table.{Found}
 use Rattle.channels.proofs.slots.lowest.Given as goal
 

@@ -29,6 +29,6 @@ returns g c =
     let p = c.pop_oldest.ensures in
     let x = c.in_default.ensures in
     record {
-      meets = rw p.same.0 (take_beside _ _ _ c.loop-m.self.pocket c.pop_oldest.new.self.pocket _ _ _ c.pop_oldest.result c.loop-m.invariant.0 c.loop-m.invariant.1 x c.loop-m.self.few p.oldest p.absent);
-      gives = record { handed = rw p.same.0 (c.loop-m.invariant.2 _ _ _ (last _ _ _ _ _ x.0 x.1 p.oldest)); replica = p.same.1 ∙ c.loop-m.invariant.3 };
+      meets = take_beside _ _ _ c.loop-m.self.pocket c.pop_oldest.new.pocket _ _ _ c.pop_oldest.result c.loop-m.invariant.0 c.loop-m.invariant.1 x c.loop-m.self.few p.oldest p.none;
+      gives = record { handed = c.loop-m.invariant.2 _ _ _ (last _ _ _ _ _ x.0 x.1 p.oldest); replica = c.loop-m.invariant.3 };
     }
