@@ -18,17 +18,19 @@ use Rattle.client.specs.Client.{in_phase}
 
 -- the kind of reply that a phase awaits; 0 for none
 abbrev pub awaited : Phase → ℕ
+awaited Idle = 0
 awaited (Writing rs) = 4
 awaited (Asking rs) = 5
+awaited Due = 0
 awaited (Telling rs) = 6
-awaited _ = 0
 
 -- the reply's replica has not been counted
 abbrev pub uncounted : Phase → Message → Bool
+uncounted Idle m = false
 uncounted (Writing rs) m = adds (λ x. x.replica) rs.slips rs.got (receipt_of m)
 uncounted (Asking rs) m = adds (λ x. x.replica) rs.slips rs.got (reading_of m)
+uncounted Due m = false
 uncounted (Telling rs) m = adds (λ x. x.replica) rs.slips rs.got (receipt_of m)
-uncounted _ m = false
 
 -- A reply counts if its client awaits that kind in that round and its replica has not been counted.
 abbrev pub counts : Client → Message → Bool
@@ -36,10 +38,11 @@ counts c m = m.round == c.round && (m.kind == awaited c.phase && uncounted c.pha
 
 -- with the reply counted
 abbrev pub joined : Phase → Message → Phase
+joined Idle m = Idle
 joined (Writing rs) m = Writing (with_receipt rs (receipt_of m))
 joined (Asking rs) m = Asking (with_reading rs (reading_of m))
+joined Due m = Due
 joined (Telling rs) m = Telling (with_receipt rs (receipt_of m))
-joined p m = p
 
 -- how many replies are counted
 abbrev pub tallied : Phase → ℕ

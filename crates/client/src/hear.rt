@@ -35,7 +35,8 @@ impl Phase {
             (Phase::Writing(receipts), Ok(Kind::WriteReply)) => receipts.add(m.into()),
             (Phase::Asking(readings), Ok(Kind::ReadReply)) => readings.add(m.into()),
             (Phase::Telling(receipts), Ok(Kind::TellReply)) => receipts.add(m.into()),
-            _ => false,
+            (Phase::Idle | Phase::Due, _) => false,
+            (Phase::Writing(_) | Phase::Asking(_) | Phase::Telling(_), _) => false,
         }
     }
 
