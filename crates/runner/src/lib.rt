@@ -5,3 +5,7 @@ pub mod choice;
 pub mod drill;
 pub mod fault;
 pub mod memory;
+
+pub use crate::choice::Choice;
+pub use crate::fault::DrillFault;
+pub use crate::memory::Memory;

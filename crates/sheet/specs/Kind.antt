@@ -29,12 +29,8 @@ letter_of ClientOut = 120  -- x
 
 -- a space, or a line end behind the kind that has nothing more on its line
 abbrev pub separator_for : Kind → ℕ
-separator_for Write = 32
-separator_for Read = 32
-separator_for Tell = 32
 separator_for Carry = 10
-separator_for ReplicaOut = 32
-separator_for ClientOut = 32
+separator_for _ = 32
 
 -- the word of a kind is its letter alone
 abbrev pub word_for : Kind → List ℕ

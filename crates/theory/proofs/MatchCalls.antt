@@ -121,7 +121,7 @@ no_readings_lem : (need : ℕ) → 0 < need → ReadingsMatch need no_readings [
 no_readings_lem need l =
     record { long = length-replicate replicas_max blank_reading; got = refl; short = l; counted = record { same = refl; once = tt; bytes = tt } }
 
-raised_is : (m n : ℕ) → m ≡ n → m ≤ (rounds_max + 1) → raised m ≡ suc n
+raised_is : (m n : ℕ) → m ≡ n → m ≤ rounds_max + 1 → raised m ≡ suc n
 raised_is m n e l = omega arith
 
 pub clients_set : (k : Checked) (xs : List Client) (f : ℕ → model.Client) (g : ℕ → Bool) (c : ℕ) (x : Client) (y : model.Client) → c < clients_max → ClientsMatch k xs f g → x.out ≡ g c → ClientMatches k x y → ClientsMatch k (set xs c x) (put f c y) g

@@ -71,7 +71,7 @@ module _ (k : Checked) (log : List Entry) (w : World) (r : Register) (m : Messag
 
     -- ---- a write or a tell that is complete
     ends : (kd : model.Kind) (ss : List Slip) (n : ℕ) (a : Answer) → model.Counting b (msg_of m) kd ss → ((kd ≡ model.writes) × (k.replicas ≡ length (model.slip (msg_of m) ∷ ss) + k.tolerated) × (n ≡ 1)) ⊎ ((kd ≡ model.tells) × (2 * k.tolerated + 1 ≡ length (model.slip (msg_of m) ∷ ss)) × (n ≡ 2))
-        → x.round ≤ (rounds_max + 1) → a ≡ ended_as m.client x.version x.value n → w.register ≡ with_client r m.client (in_phase x Idle) → Reached k (entry Carry a ms ∷ log) w
+        → x.round ≤ rounds_max + 1 → a ≡ ended_as m.client x.version x.value n → w.register ≡ with_client r m.client (in_phase x Idle) → Reached k (entry Carry a ms ∷ log) w
     ends kd ss n a cu why l an re =
         let version : x.version ≡ y.version = matched.version in
         let value : x.value ≡ y.value = matched.value in

@@ -54,11 +54,11 @@ PhasesMatch k (Telling rs) p = (ss : List Slip) × (p ≡ model.awaiting model.t
 
 -- a round number leaves room for one more, and for two more before a read
 abbrev pub RoundsLeft : Phase → ℕ → Type 0
-RoundsLeft Idle n = n ≤ (rounds_max + 1)
-RoundsLeft (Writing rs) n = n ≤ (rounds_max + 1)
+RoundsLeft Idle n = n ≤ rounds_max + 1
+RoundsLeft (Writing rs) n = n ≤ rounds_max + 1
 RoundsLeft (Asking rs) n = n ≤ rounds_max
 RoundsLeft Due n = n ≤ rounds_max
-RoundsLeft (Telling rs) n = n ≤ (rounds_max + 1)
+RoundsLeft (Telling rs) n = n ≤ rounds_max + 1
 
 -- a client
 pub record ClientMatches (k : Checked) (x : Client) (y : model.Client) : Type 0 where
