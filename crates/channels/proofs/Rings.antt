@@ -1,6 +1,6 @@
 -- One element more at the end of a ring (`ring_push`), and one fewer at its start (`ring_pop`).
 use Rattle.std.proofs.Common.{◌≡◌, ℕ, ◌+◌, ◌-◌, ◌<◌, ◌≤◌, List, [], ◌∷◌, ◌++◌, length, get_or, take, drop, set, sym, ap, ◌∙◌, inl, inr, add-one, arith}
-use Rattle.std.proofs.lemmas.List.{append-nil, append_assoc, length-append, length-set, length-take, length-drop, set-append_left, set-append_right, take_all, take-append-le, take-set-le, drop-set-lt, drop-set-add, drop_all, drop_more, take_more, take_more_set}
+use Rattle.std.proofs.lemmas.List.{get_or_default, append-nil, append_assoc, length-append, length-set, length-take, length-drop, set-append_left, set-append_right, take_all, take-append-le, take-set-le, drop-set-lt, drop-set-add, drop_all, drop_more, take_more, take_more_set}
 use Rattle.std.proofs.Math.Seq.{take-set-lt}
 use Rattle.std.specs.List.Sorted.{IsPermutation}
 use Rattle.std.proofs.lemmas.List.Sorted.{IsPermutation-to_front}
@@ -46,7 +46,7 @@ ring_whole xs s n e =
 pub length_ring : {X : Type 0} (xs : List X) (s n : ℕ) → s ≤ length xs → n ≤ length xs → length (ring xs s n) ≡ n
 length_ring xs s n h m = simp (length-take, length-append, length-drop) (omega arith)
 
-ring_push : {X : Type 0} (xs : List X) (s n i : ℕ) (y : X) → s ≤ length xs → n < length xs → i ≡ end_of s n (length xs) → ring (set xs i y) s (n + 1) ≡ ring xs s n ++ y ∷ []
+pub ring_push : {X : Type 0} (xs : List X) (s n i : ℕ) (y : X) → s ≤ length xs → n < length xs → i ≡ end_of s n (length xs) → ring (set xs i y) s (n + 1) ≡ ring xs s n ++ y ∷ []
 ring_push xs s n i y h m e =
     elim (cases_lt n (length xs - s)) [
       | inl lt ↦ let at : i ≡ s + n = grind (arith, nat_tests) in
@@ -78,3 +78,7 @@ ring_pop xs s n i x h p m e r =
           let read : x ≡ get_or xs 0 x = rw at at r in
           ring_whole xs s n all ∙ rw (at, ap (ring xs 0) (sym one)) (ring_pop_on xs 0 (n - 1) x some few read)
     ]
+
+-- the same, of what is read in its cell
+pub ring_gives : {X : Type 0} (xs : List X) (s n i : ℕ) (d : X) → s ≤ length xs → 0 < n → n ≤ length xs → i ≡ first_of s (length xs) → i < length xs → ring xs s n ≡ get_or xs i d ∷ ring xs (i + 1) (n - 1)
+ring_gives xs s n i d h p m e l = ring_pop xs s n i (get_or xs i d) h p m e (get_or_default xs i d _ l)

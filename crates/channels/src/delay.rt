@@ -1,11 +1,10 @@
 //! The delaying layer: over any channel, it keeps what goes to one replica back in a pocket.
-ghost use Rattle.std.specs.Prelude.{◌≡◌, ◌≤◌, [], length, IfNone};
+ghost use Rattle.std.specs.Prelude.{◌≡◌, ◌≤◌, length};
 ghost use Rattle.wire.specs.Channel.{Put, Taken};
 ghost use Rattle.channels.specs.Sizes.{pocket_max};
-ghost use Rattle.channels.specs.Queue.{Oldest};
 
+use crate::pocket::Pocket;
 use crate::sizes::POCKET_MAX;
-use arrayvec::ArrayVec;
 use wire::channel::{Channel, Full};
 use wire::kind::Kind;
 use wire::message::Message;
@@ -14,7 +13,7 @@ use wire::message::Message;
 #[derive(Drop)]
 pub struct Delay<C> {
     below: C,
-    pocket: ArrayVec<Message, POCKET_MAX>,
+    pocket: Pocket,
     replica: u8,
     ghost few: { length pocket.items ≤ pocket_max },
 }
@@ -28,7 +27,7 @@ impl<C> Delay<C> {
     {
         Delay {
             below,
-            pocket: ArrayVec::new(),
+            pocket: Pocket::new(),
             replica,
         }
     }
@@ -43,15 +42,6 @@ impl<C> Delay<C> {
     }
 }
 
-// The oldest message leaves the pocket; none leaves it where it is empty.
-#[tactic(auto, using(crate::proofs::Beside::first_taken))]
-fn pop_oldest(pocket: &mut ArrayVec<Message, POCKET_MAX>) -> Option<Message>
-    ensures oldest { Oldest pocket.old.items pocket.new.items result }
-    ensures none { IfNone result (pocket.new ≡ pocket.old) }
-{
-    pocket.pop_at(0)
-}
-
 impl<C: Channel> Channel for Delay<C> {
     ghost use Rattle.channels.specs.Delay.{layered, Enters, Gives};
 
@@ -64,7 +54,7 @@ impl<C: Channel> Channel for Delay<C> {
     {
         match self.below.put(m) {
             Ok(()) => Ok(()),
-            Err(Full) => self.pocket.try_push(m).map_err(|_| Full),
+            Err(Full) => self.pocket.try_push(m),
         }
     }
 
@@ -79,7 +69,7 @@ impl<C: Channel> Channel for Delay<C> {
             }
             self.pocket.push(m);
         }
-        pop_oldest(&mut self.pocket)
+        self.pocket.pop()
     }
 
     fn waiting(&self) -> u32 {
@@ -89,8 +79,6 @@ impl<C: Channel> Channel for Delay<C> {
     }
 
     fn free(&self) -> u32 {
-        self.below
-            .free()
-            .saturating_add(self.pocket.remaining_capacity() as u32)
+        self.below.free().saturating_add(self.pocket.room() as u32)
     }
 }

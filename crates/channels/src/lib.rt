@@ -2,7 +2,9 @@
 #![tactic(auto)]
 
 pub mod delay;
+mod pocket;
 pub mod queue;
+mod ring;
 pub mod sizes;
 pub mod slots;
 

@@ -1,7 +1,7 @@
 //! The first-in first-out queue, a ring in memory that is lent to it.
-ghost use Rattle.std.specs.Prelude.{◌≡◌, ◌<◌, ◌≤◌, [], length};
-ghost use Rattle.channels.specs.Ring.{end_of, first_of};
+ghost use Rattle.std.specs.Prelude.{◌≡◌, ◌≤◌, length};
 
+use crate::ring::{end_of, first_of};
 use wire::channel::{Channel, Full};
 use wire::message::Message;
 
@@ -31,27 +31,6 @@ impl<'a> Queue<'a> {
             len: 0,
         }
     }
-}
-
-// The cell after the last element of a ring.
-fn end_of(start: usize, len: usize, cap: usize) -> usize
-    requires start { start ≤ cap }
-    requires len { len < cap }
-    ensures at { result ≡ end_of start len cap }
-    ensures within { result < cap }
-{
-    let gap = cap - start;
-    if len < gap { start + len } else { len - gap }
-}
-
-// The cell of the first element of a ring.
-fn first_of(start: usize, cap: usize) -> usize
-    requires start { start ≤ cap }
-    requires some { 0 < cap }
-    ensures at { result ≡ first_of start cap }
-    ensures within { result < cap }
-{
-    if start < cap { start } else { 0 }
 }
 
 impl Channel for Queue<'_> {

@@ -9,4 +9,4 @@ returns-in-Ok-clause-meets g c = (IsPermutation-append_left _ _ _ c.in-Ok.ensure
 pub returns-in-Err-clause-meets : goal.returns-in-Err-clause-meets
 returns-in-Err-clause-meets g c =
     let p = c.try_push.ensures in
-    keep_beside _ _ c.args.self.now.pocket c.try_push.new.self c.args.m _ _ c.try_push.result c.map_err.result c.map_err.ensures.variant c.in-Err.ensures p.variant p.ok p.err p.full
+    keep_beside _ _ c.args.self.now.pocket c.try_push.new.self c.args.m _ _ c.try_push.result c.in-Err.ensures p.variant p.ok p.err p.full

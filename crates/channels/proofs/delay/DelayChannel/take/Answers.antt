@@ -1,4 +1,4 @@
-use Rattle.std.proofs.Common.{sym, ◌∙◌, arith}
+use Rattle.std.proofs.Common.{[], ◌∷◌, length, sym, ap, ◌∙◌, arith, length-append}
 use Rattle.std.proofs.lemmas.List.Sorted.{IsPermutation-refl, IsPermutation-append_left, IsPermutation-trans, IsPermutation-sym}
 use Rattle.channels.specs.Delay.{given, delayed, last}
 use Rattle.channels.proofs.Beside.{put_beside, take_beside}
@@ -16,9 +16,9 @@ returns-then-not-is_later-clause-gives g c = record {
 pub loop-m-preserved : goal.loop-m-preserved
 loop-m-preserved g c =
     let h = c.in-Some.ensures in
-    let e = c.push.ensures.items in (
+    let e = c.push.ensures in (
       rw e (IsPermutation-trans _ _ _ c.loop-m.invariant.0 (IsPermutation-trans _ _ _ (IsPermutation-append_left _ _ _ h.0) (IsPermutation-sym _ _ (put_beside _ _ _ _ (IsPermutation-refl _))))),
-      omega (arith, h.1, c.push.ensures.len),
+      omega (arith, h.1, ap length e, length-append c.loop-m.self.pocket.items (c.in-Some.m ∷ [])),
       (λ b' p' r k. c.loop-m.invariant.2 b' p' r
           (delayed _ _ _ _ _ _ c.in-Some.m r h.0 (sym c.is_later.ensures ∙ c.if-not-is_later.false) e k)),
       c.loop-m.invariant.3,
@@ -26,9 +26,9 @@ loop-m-preserved g c =
 
 pub returns : goal.returns
 returns g c =
-    let p = c.pop_oldest.ensures in
+    let p = c.pop.ensures in
     let x = c.in_default.ensures in
     record {
-      meets = take_beside _ _ _ c.loop-m.self.pocket c.pop_oldest.new.pocket _ _ _ c.pop_oldest.result c.loop-m.invariant.0 c.loop-m.invariant.1 x c.loop-m.self.few p.oldest p.none;
+      meets = take_beside _ _ _ c.loop-m.self.pocket c.pop.new.self _ _ _ c.pop.result c.loop-m.invariant.0 c.loop-m.invariant.1 x c.loop-m.self.few p.oldest p.none;
       gives = record { handed = c.loop-m.invariant.2 _ _ _ (last _ _ _ _ _ x.0 x.1 p.oldest); replica = c.loop-m.invariant.3 };
     }
