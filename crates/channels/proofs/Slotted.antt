@@ -1,9 +1,9 @@
 -- One slot filled or freed, and a search over the slots.
-use Rattle.std.proofs.Common.{◌≡◌, ℕ, zero, suc, ◌+◌, ◌<◌, Bool, sym, ap, ◌∙◌, inl, inr, true, false, cond, List, [], ◌∷◌, length, get_or, set, is_none, MatchOption, Some, None, Option, refl, le_of_suc-le-suc, not-suc-le-zero, arith}
+use Rattle.std.proofs.Common.{◌≡◌, ℕ, zero, suc, ◌+◌, ◌-◌, ◌%◌, ◌^◌, ◌<◌, ◌≤◌, Bool, sym, ap, ◌∙◌, inl, inr, true, false, cond, List, [], ◌∷◌, length, get_or, set, is_none, is_some, fold, MatchOption, Some, None, Option, refl, le_of_suc-le-suc, not-suc-le-zero, arith}
+use Rattle.std.specs.Int.{from_bool}
 use Rattle.std.specs.List.Sorted.{IsPermutation}
 use Rattle.std.proofs.lemmas.List.Sorted.{IsPermutation-refl, IsPermutation-cons, IsPermutation-trans}
-use Rattle.std.specs.List.{count_by, All, AllWithin, HoldsAt}
-use Rattle.std.proofs.lemmas.List.Recursion.{is_count_by}
+use Rattle.std.specs.List.{All, AllWithin, HoldsAt}
 use Rattle.std.proofs.lemmas.Bool.{cases_lt, cases_Bool}
 use mathlib.Core.Path.{subst⁻¹}
 use Rattle.std.proofs.lemmas.Bool.Decides.{nat_tests}
@@ -12,12 +12,14 @@ use Rattle.channels.specs.Table.{somes, gaps, lower, NoLower, Found, pick}
 use Rattle.std.proofs.lemmas.List.Sorted.{IsPermutation-middle}
 
 module _ {M : Type 0} where
-  unused_or_not : (s : Option M) (xs : List (Option M)) → gaps (s ∷ xs) ≡ cond (is_none s) (1 + gaps xs) (gaps xs)
-  unused_or_not None xs = omega arith
-  unused_or_not (Some m) xs = refl
+  -- one fewer if the slot is used, in 64 bits
+  abbrev pub less_used : ℕ → Option M → ℕ
+  less_used n s = (n + (2 ^ 64 - from_bool (is_some s))) % 2 ^ 64
 
-  pub gaps_count : (xs : List (Option M)) → gaps xs ≡ count_by is_none xs
-  gaps_count xs = is_count_by gaps is_none refl unused_or_not xs
+  pub fold_used : (xs : List (Option M)) (n : ℕ) → length xs ≤ n → n < 2 ^ 64 → fold less_used n xs ≡ n - length xs + gaps xs
+  fold_used [] n l h = omega arith
+  fold_used (None ∷ xs) n l h = let e : less_used n None ≡ n = omega arith in rw e (omega (arith, fold_used xs n (omega arith) h))
+  fold_used (Some m ∷ xs) n l h = let e : less_used n (Some m) ≡ n - 1 = omega arith in rw e (omega (arith, fold_used xs (n - 1) (omega arith) (omega arith)))
 
   all_used : (xs : List (Option M)) → All (λ s. is_none s ≡ false) xs → gaps xs ≡ 0
   all_used [] h = refl
