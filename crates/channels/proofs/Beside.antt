@@ -10,9 +10,13 @@ use Rattle.channels.specs.Sizes.{pocket_max}
 use Rattle.channels.specs.Queue.{Oldest}
 use Rattle.channels.specs.Pocket.{Kept}
 
--- of two parts, one holds the same and the other one more at its end
-pub put_beside : (xs xs' ys : List Message) (m : Message) → IsPermutation xs' xs → IsPermutation (xs' ++ (ys ++ m ∷ [])) (m ∷ (xs ++ ys))
-put_beside xs xs' ys m h = IsPermutation-trans _ _ _ (IsPermutation-append _ _ _ _ h (IsPermutation-to_front ys m)) (IsPermutation-middle xs m ys)
+module _ {X : Type 0} where
+  -- of two parts, one holds the same and the other one more at its end
+  pub put_beside : (xs xs' ys : List X) (m : X) → IsPermutation xs' xs → IsPermutation (xs' ++ (ys ++ m ∷ [])) (m ∷ (xs ++ ys))
+  put_beside xs xs' ys m h = IsPermutation-trans _ _ _ (IsPermutation-append _ _ _ _ h (IsPermutation-to_front ys m)) (IsPermutation-middle xs m ys)
+
+  pub nil_from_shuffled : (xs : List X) → IsPermutation xs [] → xs ≡ []
+  nil_from_shuffled xs h = nil_from_length xs (omega (arith, length_permutation xs [] h))
 
 -- nothing fits below: what a pocket does with a message, both do
 pub keep_beside : {U F : Type 0} (below below' : List Message) (v v' : Kept) (m : Message) (room left : ℕ) (r : Result U F) → IsPermutation below' below × (room ≡ 0) × (left ≡ 0)
@@ -23,9 +27,6 @@ keep_beside below below' v v' m room left (Ok _) (h, y, z) few put same full =
     (rw put (put_beside below below' v.items m h), rw put (omega (arith, length-append v.items (m ∷ []))))
 keep_beside below below' v v' m room left (Err _) (h, y, z) few put same full =
     (rw same (IsPermutation-append_left _ _ _ h), omega (arith, full), rw same (omega (arith, full)))
-
-nil_from_shuffled : (xs : List Message) → IsPermutation xs [] → xs ≡ []
-nil_from_shuffled xs h = nil_from_length xs (omega (arith, length_permutation xs [] h))
 
 -- nothing is left below: what a pocket gives, both give
 pub take_beside : (before below below' : List Message) (v v' : Kept) (n n' whole : ℕ) (r : Option Message) → IsPermutation before (below ++ v.items) → n + (pocket_max - length v.items) ≡ whole → (below ≡ []) × (below' ≡ []) × (n' ≡ n) → length v.items ≤ pocket_max → Oldest v.items v'.items r → IfNone r (v' ≡ v)
