@@ -30,10 +30,16 @@ impl<'a, T: Slip + Drop> Tally<'a, T> {
     }
 
     // Is one of the slips from the replica?
+    // A loop, since `any` takes half as many instructions again for each slip.
     fn is_from(slips: &[T], replica: u8) -> bool
         ensures { result ≡ from T.Slip.sent_by replica slips.now }
     {
-        slips.iter().any(|s| s.sender() == replica)
+        for s in slips {
+            if s.sender() == replica {
+                return true;
+            }
+        }
+        false
     }
 
     /// Is a slip of the replica held?
