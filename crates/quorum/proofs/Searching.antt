@@ -33,7 +33,7 @@ agreed_by_mask s t v h extra m xs small e =
     }))
 
 -- a mask that does not agree does not
-not_by_mask : (s t v h extra m : ℕ) (xs : List Reading) → false ≡ mask_agrees s t v h extra xs m → mask_agrees s t v h extra xs m ≡ true → ⊥
+pub not_by_mask : (s t v h extra m : ℕ) (xs : List Reading) → false ≡ mask_agrees s t v h extra xs m → mask_agrees s t v h extra xs m ≡ true → ⊥
 not_by_mask s t v h extra m xs e f = both_ways (mask_agrees s t v h extra xs m) (sym e) f
 
 -- a mask below 256 that agrees

@@ -13,7 +13,7 @@ use Rattle.register.specs.declared.fault.RegisterFault.{RegisterFault}
 use Rattle.register.specs.declared.fault.RegisterFault.TheVariants.{Channel as OfChannel}
 use Rattle.std.specs.Option.{option_map, option_or}
 use Rattle.register.specs.Register.{opened}
-use Rattle.register.specs.Open.{channel_fault}
+use Rattle.register.specs.Open.{channel_fault, opening_fault}
 use Rattle.register.specs.World.{World, world}
 use Rattle.register.specs.Past.{Past}
 use Rattle.register.specs.Session.{Session, SessionRan}
@@ -29,14 +29,18 @@ no_fault : {E F : Type 0} (f : E → F) (o : Option E) → option_map f o ≡ No
 no_fault f None e = refl
 no_fault f (Some x) e = cc
 
-opened_fine : (a : Option RegisterFault) (b : Option ChannelFault) → option_or a (option_map OfChannel b) ≡ None → b ≡ None
-opened_fine None b e = no_fault OfChannel b e
-opened_fine (Some x) b e = cc
+no_later_fault : (a : Option RegisterFault) (b : Option ChannelFault) → option_or a (option_map OfChannel b) ≡ None → b ≡ None
+no_later_fault None b e = no_fault OfChannel b e
+no_later_fault (Some x) b e = cc
+
+-- where opening has no fault, the channel is empty and has a place for each replica
+pub opened_fine : (s : Settings) (x : Contents) → opening_fault s x ≡ None → (x.waiting ≡ []) × (s.replicas ≤ x.free)
+opened_fine s x e = channel_fine x s.replicas (no_later_fault _ _ e)
 
 -- a session opens over an empty channel with a place for each replica, and so keeps the laws
 pub session_lawful : (s : Settings) (x : Contents) (os : List Order) (rs : List Answer) (w : World) → Session s x os rs w → LawfulSession s x os rs w
 session_lawful s x os rs w h =
-    let fine = channel_fine x s.replicas (opened_fine _ _ h.accepted) in
+    let fine = opened_fine s x h.accepted in
     let room : h.settings.replicas ≤ x.free = omega (arith, fine.1, ap (λ y. y.replicas) h.passed) in
     record {
       session = h;
