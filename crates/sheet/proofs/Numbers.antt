@@ -1,10 +1,12 @@
 -- Numbers and how they are written.
-use Rattle.std.proofs.Common.{◌≡◌, ℕ, suc, ℤ, ◌-ℤ◌, subst, w32, to_z, of_z, ◌+◌, ◌-◌, ◌*◌, ◌^◌, ◌<◌, ◌≤◌, Bool, true, false, cond, List, [], ◌∷◌, length, get_or, drop, pos, negsuc, decimal, fold, sym, refl, ap, ◌∙◌, inl, inr, arith, lit<, rules}
+use Rattle.std.proofs.Common.{◌≡◌, ℕ, suc, ℤ, ◌-ℤ◌, subst, w32, to_z, of_z, ◌+◌, ◌-◌, ◌*◌, ◌^◌, ◌<◌, ◌≤◌, Bool, true, false, cond, List, [], ◌∷◌, length, get_or, take, drop, pos, negsuc, decimal, fold, sym, refl, ap, ◌∙◌, inl, inr, arith, lit<, rules}
 use Rattle.std.proofs.lemmas.Bool.Decides.{nat_tests}
 use Rattle.std.specs.Str.{IsUtf8}
 use Rattle.std.proofs.lemmas.Fmt.{decimal-digits_value, decimal_digit, IsAscii-from_digits}
 use Rattle.std.proofs.lemmas.Str.{IsUtf8-from_ascii}
 use Rattle.std.proofs.lemmas.Str.Parse.{IsNumeralModel, numerals_by_fold}
+use Rattle.std.proofs.lemmas.List.{take-append-drop}
+use Rattle.std.proofs.lemmas.List.Sums.{fold-append}
 use Rattle.std.proofs.lemmas.Bool.{cases_eq, false≢true}
 use Rattle.std.proofs.lemmas.Int.{ints, to_z_pos}
 use Rattle.sheet.proofs.Words.{number_max, number, above, Counts, Values, all_digits, amount, numeral, negated, sorted, digits, negative, name}
@@ -39,6 +41,16 @@ sorted_digits v w h = pick_digits (numeral w) (negated w) v w (drop 1 w) h
 
 pub negative_sorted : (v w : List ℕ) → negative v ≡ sorted w → (negated w ≡ true) × (v ≡ drop 1 w)
 negative_sorted v w h = pick_negative (numeral w) (negated w) v w (drop 1 w) h
+
+-- further digits make no number smaller, so the first of them write at most what all do
+amount_grows : (n : ℕ) (w : List ℕ) → n ≤ fold (λ a b. a * 10 + (b - 48)) n w
+amount_grows n [] = omega arith
+amount_grows n (b ∷ w) = omega (arith, amount_grows (n * 10 + (b - 48)) w)
+
+pub amount_of_first : (w : List ℕ) (k : ℕ) → amount (take k w) ≤ amount w
+amount_of_first w k =
+    let e = fold-append (λ a b. a * 10 + (b - 48)) 0 (take k w) (drop k w) in
+    omega (arith, rw take-append-drop at e, amount_grows (amount (take k w)) (drop k w))
 
 -- a word that was judged a number writes its amount
 pub counts : (v w : List ℕ) (limit n : ℕ) → limit < 2 ^ 32 → digits v ≡ sorted w → n ≡ amount v → n ≤ limit → Counts limit w n

@@ -7,14 +7,21 @@ ghost use Rattle.sheet.specs.Steps.{Counts, Values, Judges, JudgesCount, Bounds}
 use crate::fault::SheetFault;
 use crate::word::Word;
 use settings::limits::{NUMBER_MAX, ORDERS_MAX};
-use std::str;
 
 // The number that digits write, where it is below 2 ^ 32.
+// Not by `parse`, which asks for text: each byte would be looked at once more.
 fn amount_of(digits: &[u8]) -> Option<u32>
     requires { numeral digits.now ≡ true }
     ensures { MatchOption result (2 ^ 32 ≤ amount digits.now) (λ n. n ≡ amount digits.now) }
 {
-    str::from_utf8(digits).ok()?.parse().ok()
+    let mut n: u64 = 0;
+    for b in digits {
+        n = n * 10 + u64::from(*b - b'0');
+        if n > u64::from(u32::MAX) {
+            return None;
+        }
+    }
+    Some(n as u32)
 }
 
 // The number that the digits of a word write, up to a limit.
