@@ -5,6 +5,7 @@
 
 use console::print::print;
 use runner::choice::Choice;
+use std::alloc::AllocError;
 use std::io::{Read, Write};
 
 // The number that the digits write. No byte is refused: one below `0` counts as 0, one above `9` as more than 9.
@@ -46,7 +47,8 @@ fn main(rt: HostRuntime) -> anyhow::Result<()> {
         let len = number(head.get(7..).unwrap_or(b""));
         let (sheet, next) = behind.split_at_checked(len).unwrap_or((b"", b""));
         all.extend_from_slice(b"-\n")?;
-        print(heap, choice(head), sheet, &mut all)?;
+        // The writer is memory too, so an error is of memory: the text is that of an allocation.
+        print(heap, choice(head), sheet, &mut all).map_err(|_| AllocError)?;
         rest = next;
     }
     rt.stdout().write_all(&all)?;

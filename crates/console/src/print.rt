@@ -4,6 +4,7 @@ ghost use Rattle.std.specs.Io.KnownBytes.{Appends};
 ghost use Rattle.console.specs.Print.{told, Prints};
 ghost use Rattle.console.specs.Sizes.{queue_cells, places, listing_bytes};
 
+use crate::failure::Failure;
 use crate::sizes::{LISTING_BYTES, PLACES, QUEUE_CELLS};
 use orders::answer::Answer;
 use orders::order::Order;
@@ -12,15 +13,16 @@ use runner::fault::DrillFault;
 use runner::memory::Memory;
 use sheet::Position;
 use std::alloc::Global;
-use std::io::{self, Write};
+use std::io::Write;
 use wire::message::Message;
 
 // A line with the fault.
-fn write_fault<W: Write>(alloc: Global, fault: DrillFault, w: &mut W) -> io::Result<()>
+fn write_fault<W: Write>(alloc: Global, fault: DrillFault, w: &mut W) -> Result<(), Failure>
     ensures { OnOk result (Appends (W.contents w.old) (W.contents w.new) (told (Err fault.entry) [])) }
 {
     let line = format!(in alloc; "{fault}\n")?;
-    w.write_all(line.as_bytes())
+    w.write_all(line.as_bytes())?;
+    Ok(())
 }
 
 // Rehearses the sheet in the memory lent, and writes what comes of it.
@@ -32,7 +34,7 @@ fn write_outcome<W: Write>(
     sheet: &[u8],
     memory: &mut Memory,
     w: &mut W,
-) -> io::Result<()>
+) -> Result<(), Failure>
     requires cells { length cells.old ≡ queue_cells }
     requires orders { length memory.old.orders.now ≡ places }
     requires answers { length memory.old.answers.now ≡ places }
@@ -40,14 +42,20 @@ fn write_outcome<W: Write>(
     ensures { OnOk result (Prints choice sheet.now (W.contents w.old) (W.contents w.new)) }
 {
     match rehearse_by(choice, cells, sheet, memory) {
-        Ok(n) => w.write_all(&memory.out[..n]),
-        Err(fault) => write_fault(alloc, fault, w),
+        Ok(n) => w.write_all(&memory.out[..n])?,
+        Err(fault) => write_fault(alloc, fault, w)?,
     }
+    Ok(())
 }
 
 /// Rehearses the sheet over a new channel, and writes its listing, or a line with the fault. An error is of memory, or
 /// of the writer, which may then hold a part.
-pub fn print<W: Write>(alloc: Global, choice: Choice, sheet: &[u8], w: &mut W) -> io::Result<()>
+pub fn print<W: Write>(
+    alloc: Global,
+    choice: Choice,
+    sheet: &[u8],
+    w: &mut W,
+) -> Result<(), Failure>
     ensures { OnOk result (Prints choice sheet.now (W.contents w.old) (W.contents w.new)) }
 {
     let mut cells = vec![in alloc; Message::default(); QUEUE_CELLS]?;

@@ -3,6 +3,7 @@ ghost use Rattle.std.specs.Prelude.{◌≡◌, take, IfOk, IfSome, OnOk};
 ghost use Rattle.console.specs.Print.{PrintsInput};
 ghost use Rattle.console.specs.Print.{first_bytes};
 
+use crate::failure::Failure;
 use crate::print::print;
 use crate::sizes::SHEET_BYTES;
 use runner::choice::Choice;
@@ -26,7 +27,7 @@ pub fn run<R: Read + Drop, W: Write>(
     choice: Choice,
     input: R,
     w: &mut W,
-) -> io::Result<()>
+) -> Result<(), Failure>
     ensures { OnOk result (PrintsInput choice (R.remaining input) (W.contents w.old) (W.contents w.new)) }
 {
     let sheet = read_sheet(alloc, input)?;

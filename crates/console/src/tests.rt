@@ -1,12 +1,12 @@
 //! What is printed of a sheet that is run, of one that is refused, and of one over layers that delay a replica.
+use crate::failure::Failure;
 use crate::print::print;
 use crate::run::run;
 use runner::choice::Choice;
-use std::alloc::Global;
-use std::io;
+use std::alloc::{AllocError, Global};
 
 #[test]
-fn a_listing(rt: HostRuntime) -> io::Result<()> {
+fn a_listing(rt: HostRuntime) -> Result<(), Failure> {
     let sheet: &[u8] = b"settings 5\n4 1 1 1 1000\norders 2\nw 1200\nw 5\n";
     let mut text: Vec<u8> = Vec::new(rt.alloc());
     run(rt.alloc(), Choice::Queue, sheet, &mut text)?;
@@ -15,7 +15,7 @@ fn a_listing(rt: HostRuntime) -> io::Result<()> {
 }
 
 #[test]
-fn a_fault(rt: HostRuntime) -> io::Result<()> {
+fn a_fault(rt: HostRuntime) -> Result<(), Failure> {
     let sheet: &[u8] = b"settings 6\n";
     let mut text: Vec<u8> = Vec::new(rt.alloc());
     run(rt.alloc(), Choice::DelayTwice(0, 1), sheet, &mut text)?;
@@ -24,11 +24,18 @@ fn a_fault(rt: HostRuntime) -> io::Result<()> {
 }
 
 #[test]
-fn a_sheet_printed(rt: HostRuntime) -> io::Result<()> {
+fn a_sheet_printed(rt: HostRuntime) -> Result<(), Failure> {
     let sheet: &[u8] = b"settings 5\n4 1 1 1 1000\norders 2\nw 1200\nw 5\n";
     let mut text: Vec<u8> = Vec::new(rt.alloc());
     print(rt.alloc(), Choice::Slots, sheet, &mut text)?;
     assert!(rt; text.as_slice() == b"100 0 0 0 0\n13 0 0 0 0\n".as_slice());
+    Ok(())
+}
+
+#[test]
+fn a_failed_allocation_in_its_own_words(rt: HostRuntime) -> Result<(), Failure> {
+    let line = format!(in rt.alloc(); "{}", Failure::from(AllocError))?;
+    assert!(rt; line.as_str() == "memory allocation failed");
     Ok(())
 }
 
@@ -37,14 +44,14 @@ const ONE_OUT: &[u8] =
     b"settings 5\n4 1 1 1 1000\norders 11\nw 7\nb 2\nc\nc\nc\nc\nc\nc\nc\nc\nc\n";
 
 // Is this what is printed of that sheet over a channel?
-fn gives(alloc: Global, choice: Choice, listing: &[u8]) -> io::Result<bool> {
+fn gives(alloc: Global, choice: Choice, listing: &[u8]) -> Result<bool, Failure> {
     let mut text: Vec<u8> = Vec::new(alloc);
     print(alloc, choice, ONE_OUT, &mut text)?;
     Ok(text.as_slice() == listing)
 }
 
 #[test]
-fn a_layer_delays_the_replica_named(rt: HostRuntime) -> io::Result<()> {
+fn a_layer_delays_the_replica_named(rt: HostRuntime) -> Result<(), Failure> {
     let two: &[u8] = b"100 0 0 0 0\n100 2 0 0 0\n101 0 0 0 0\n101 0 0 0 0\n101 0 0 0 0\n\
         104 0 0 0 0\n104 0 0 0 0\n105 0 1 7 1\n102 0 0 0 0\n18 0 0 0 0\n18 0 0 0 0\n";
     let holds = gives(rt.alloc(), Choice::DelayQueue(2), two)?;
@@ -54,7 +61,7 @@ fn a_layer_delays_the_replica_named(rt: HostRuntime) -> io::Result<()> {
 
 // The upper layer is named first: the one listing comes with no other lower layer, the other with no other upper one.
 #[test]
-fn two_layers_delay_the_replicas_named(rt: HostRuntime) -> io::Result<()> {
+fn two_layers_delay_the_replicas_named(rt: HostRuntime) -> Result<(), Failure> {
     let lower_two: &[u8] = b"100 0 0 0 0\n100 2 0 0 0\n101 0 0 0 0\n101 0 0 0 0\n104 0 0 0 0\n\
         104 0 0 0 0\n102 0 0 0 0\n101 0 0 0 0\n105 0 1 7 1\n18 0 0 0 0\n18 0 0 0 0\n";
     let upper_two: &[u8] = b"100 0 0 0 0\n100 2 0 0 0\n101 0 0 0 0\n101 0 0 0 0\n104 0 0 0 0\n\

@@ -1,0 +1,15 @@
+//! What can end a program before all is printed.
+use std::alloc::AllocError;
+use std::io;
+use thiserror::Error;
+
+/// It prints in the words of what failed.
+#[derive(Debug, Drop, Error)]
+pub enum Failure {
+    /// The memory for a buffer.
+    #[error(transparent)]
+    Memory(#[from] AllocError),
+    /// The input, or the writer.
+    #[error(transparent)]
+    Io(#[from] io::Error),
+}
