@@ -1,6 +1,7 @@
 -- Two stores side by side, as lists with the same elements: what one takes in or gives, both do.
-use Rattle.std.proofs.Common.{◌≡◌, ℕ, ◌+◌, ◌-◌, ◌≤◌, List, [], ◌∷◌, ◌++◌, length, Some, None, Ok, Err, Option, Result, IfNone, IsOk, OnOk, OnErr, ap, refl, arith}
+use Rattle.std.proofs.Common.{◌≡◌, ℕ, ◌+◌, ◌-◌, ◌≤◌, List, [], ◌∷◌, ◌++◌, length, Some, None, Ok, Err, Option, Result, slice_get, OnSome, IfNone, IsOk, OnOk, OnErr, ap, refl, arith}
 use Rattle.std.specs.Prelude.{◌↔◌, ◌<◌}
+use Rattle.std.specs.List.{remove}
 use Rattle.std.specs.List.Sorted.{IsPermutation}
 use Rattle.std.proofs.lemmas.List.{length-append, nil_from_length}
 use Rattle.std.proofs.lemmas.List.Sorted.{IsPermutation-append, IsPermutation-append_left, IsPermutation-to_front, IsPermutation-middle, IsPermutation-trans, length_permutation}
@@ -27,6 +28,13 @@ keep_beside below below' v v' m room left (Ok _) (h, y, z) few put same full =
     (rw put (put_beside below below' v.items m h), rw put (omega (arith, length-append v.items (m ∷ []))))
 keep_beside below below' v v' m room left (Err _) (h, y, z) few put same full =
     (rw same (IsPermutation-append_left _ _ _ h), omega (arith, full), rw same (omega (arith, full)))
+
+-- what stands first is taken out
+pub first_taken : (xs ys : List Message) (r : Option Message) → r ≡ slice_get xs 0 → OnSome r (ys ≡ remove xs 0) → Oldest xs ys r
+first_taken [] ys None e s = cc
+first_taken [] ys (Some m) e s = cc
+first_taken (x ∷ xs) ys None e s = cc
+first_taken (x ∷ xs) ys (Some m) e s = cc
 
 -- nothing is left below: what a pocket gives, both give
 pub take_beside : (before below below' : List Message) (v v' : Kept) (n n' whole : ℕ) (r : Option Message) → IsPermutation before (below ++ v.items) → n + (pocket_max - length v.items) ≡ whole → (below ≡ []) × (below' ≡ []) × (n' ≡ n) → length v.items ≤ pocket_max → Oldest v.items v'.items r → IfNone r (v' ≡ v)

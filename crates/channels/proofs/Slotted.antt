@@ -3,7 +3,8 @@ use Rattle.std.proofs.Common.{◌≡◌, ℕ, zero, suc, ◌+◌, ◌-◌, ◌%�
 use Rattle.std.specs.Int.{from_bool}
 use Rattle.std.specs.List.Sorted.{IsPermutation}
 use Rattle.std.proofs.lemmas.List.Sorted.{IsPermutation-refl, IsPermutation-cons, IsPermutation-trans}
-use Rattle.std.specs.List.{All, AllWithin, HoldsAt}
+use Rattle.std.specs.List.{count_by, All, AllWithin, HoldsAt}
+use Rattle.std.proofs.lemmas.List.Recursion.{is_count_by}
 use Rattle.std.proofs.lemmas.Bool.{cases_lt, cases_Bool}
 use mathlib.Core.Path.{subst⁻¹}
 use Rattle.std.proofs.lemmas.Bool.Decides.{nat_tests}
@@ -12,6 +13,13 @@ use Rattle.channels.specs.Table.{somes, gaps, lower, NoLower, Found, pick}
 use Rattle.std.proofs.lemmas.List.Sorted.{IsPermutation-middle}
 
 module _ {M : Type 0} where
+  unused_or_not : (s : Option M) (xs : List (Option M)) → gaps (s ∷ xs) ≡ cond (is_none s) (1 + gaps xs) (gaps xs)
+  unused_or_not None xs = omega arith
+  unused_or_not (Some m) xs = refl
+
+  pub gaps_count : (xs : List (Option M)) → gaps xs ≡ count_by is_none xs
+  gaps_count xs = is_count_by gaps is_none refl unused_or_not xs
+
   -- one fewer if the slot is used, in 64 bits
   abbrev pub less_used : ℕ → Option M → ℕ
   less_used n s = (n + (2 ^ 64 - from_bool (is_some s))) % 2 ^ 64

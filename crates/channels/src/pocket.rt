@@ -10,6 +10,7 @@ use wire::channel::Full;
 use wire::message::Message;
 
 // The messages lie in `len` cells from `start` on, as those of a queue do.
+// A ring by hand: an `ArrayVec` gives its first element by moving all others, and the kit's ring lies on the heap.
 #[derive(Drop)]
 pub(crate) struct Pocket {
     cells: [Message; POCKET_MAX],

@@ -27,7 +27,7 @@ impl<'a> Cursor<'a> {
         self.fixed(b"5", b'\n')
     }
 
-    // Not inlined: a sheet has them once, and beside the orders' lines the loops count in memory.
+    // Not inlined: a sheet has them once, and beside the orders' lines the loops would count in memory.
     #[inline(never)]
     fn settings(&mut self) -> Result<Settings, SheetFault<'a>>
         ensures { Reads SmallSettings settings_words self.old self.new result }
