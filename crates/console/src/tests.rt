@@ -1,4 +1,5 @@
-//! What is printed of a sheet that is run, of one that is refused, and of one over layers that delay a replica.
+//! What is printed of a sheet that is run, of one that is refused, and of one over layers that delay a replica; and the
+//! words of a failed allocation.
 use crate::failure::Failure;
 use crate::print::print;
 use crate::run::run;

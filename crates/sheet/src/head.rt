@@ -27,7 +27,8 @@ impl<'a> Cursor<'a> {
         self.fixed(b"5", b'\n')
     }
 
-    // Not inlined: a sheet has them once, and beside the orders' lines the loops would count in memory.
+    // Not inlined: a sheet has its settings once, and in one function with the lines of its orders the loops over words
+    // would keep their counts in memory.
     #[inline(never)]
     fn settings(&mut self) -> Result<Settings, SheetFault<'a>>
         ensures { Reads SmallSettings settings_words self.old self.new result }
