@@ -1,10 +1,11 @@
 //! What is printed of a sheet that is run, of one that is refused, and of one over layers that delay a replica; and the
-//! words of a failed allocation.
+//! words of a failure.
 use crate::failure::Failure;
 use crate::print::print;
 use crate::run::run;
 use runner::choice::Choice;
 use std::alloc::{AllocError, Global};
+use std::io;
 
 #[test]
 fn a_listing(rt: HostRuntime) -> Result<(), Failure> {
@@ -37,6 +38,14 @@ fn a_sheet_printed(rt: HostRuntime) -> Result<(), Failure> {
 fn a_failed_allocation_in_its_own_words(rt: HostRuntime) -> Result<(), Failure> {
     let line = format!(in rt.alloc(); "{}", Failure::from(AllocError))?;
     assert!(rt; line.as_str() == "memory allocation failed");
+    Ok(())
+}
+
+#[test]
+fn a_failed_read_in_its_own_words(rt: HostRuntime) -> Result<(), Failure> {
+    let read = io::Error::from(AllocError);
+    let line = format!(in rt.alloc(); "{}", Failure::from(read))?;
+    assert!(rt; line.as_str() == "out of memory");
     Ok(())
 }
 
